@@ -201,6 +201,32 @@ uint8_t balanced_update(const uint8_t *record, size_t record_len,
                         uint32_t *altered);
 
 /*
+ * Update for a run of lanes at once: in lane first + i, for each i below m, the symbol changes from symbol i of old_symbols to symbol i
+ * of new_symbols.
+ *
+ *   symbol       below k
+ *   first        the first lane of the run, which ends within the block: first + m is at most lanes
+ *   old_symbols  m symbols, read: what the messages of these lanes hold there
+ *   new_symbols  m symbols, read: what they are to hold; as many as of the old
+ *   shares       n * lanes symbols, of which those of the run are read, and written at the nodes that are altered
+ *   altered      receives the number of symbols that were altered, over all lanes
+ *
+ * Every lane of the run is judged before anything is written, as balanced_update judges one: each encodes a message, which holds the
+ * old symbol there. The first lane of the run that does not decides: it gives BALANCED_WORD or BALANCED_STALE. Afterwards each lane
+ * encodes the message with the new symbol in its place, and *altered is n-k+1 times the number of lanes whose two symbols differ. Bytes of
+ * other lanes are neither read nor changed. A run of one lane is balanced_update; one of no lanes (m is 0) changes nothing.
+ *
+ * Returns 0 or one of 1 to 5, 7 to 9, 11 to 13. For 8 m is the number of whole symbols of old_symbols. For 11 the symbols, old and new, and
+ * those of the run's lanes count.
+ */
+uint8_t balanced_update_lanes(const uint8_t *record, size_t record_len,
+                              uint32_t lanes, uint32_t symbol, uint32_t first,
+                              const uint8_t *old_symbols, size_t old_len,
+                              const uint8_t *new_symbols, size_t new_len,
+                              uint8_t *shares, size_t shares_len,
+                              uint32_t *altered);
+
+/*
  * What each node has to add where one symbol changes in every lane of a block: for shares that stand apart, each with its node.
  *
  *   symbol       below k

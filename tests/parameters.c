@@ -12,7 +12,7 @@
 
 enum { ROOM = 1024, MOST = 12 };
 enum type { BYTES, PAIRS, WORDS, SIZES, LENGTH, NUMBER };
-enum { P = 271, ROOT = 268, N = 15, K = 10, LANES = 6, SYMBOL = 4, LANE = 2, TARGET = 12, NEW = 200, WRONG = 77 };
+enum { P = 271, ROOT = 268, N = 15, K = 10, LANES = 6, SYMBOL = 4, LANE = 2, TARGET = 12, NEW = 200, WRONG = 77, RUN = 3 };
 enum { RECORD_LEN = 7, W = 2, AT = SYMBOL * LANES + LANE, OLD = (17 * AT * AT + 5 * AT + 1) % P };
 
 /* All that a call is lent. Every buffer has room for every length. */
@@ -92,6 +92,9 @@ static uint8_t run_differences(const struct argument *a) {
 static uint8_t run_add_share(const struct argument *a) {
     return balanced_add_share(a[0].at, a[1].value, u32(a + 2), a[3].at, a[4].value, a[5].at, a[6].value);
 }
+static uint8_t run_update_lanes(const struct argument *a) {
+    return balanced_update_lanes(a[0].at, a[1].value, u32(a + 2), u32(a + 3), u32(a + 4), a[5].at, a[6].value, a[7].at, a[8].value, a[9].at, a[10].value, a[11].at);
+}
 static uint8_t run_weights(const struct argument *a) { return balanced_weights(a[0].at, a[1].value, a[2].at, a[3].value); }
 static uint8_t run_carried_len(const struct argument *a) { return balanced_carried_len(a[0].at, a[1].value, a[2].value, a[3].at); }
 static uint8_t run_carry_in(const struct argument *a) { return balanced_carry_in(a[0].at, a[1].value, a[2].at, a[3].value, a[4].at, a[5].value); }
@@ -132,6 +135,7 @@ static void set_row(unsigned lane) {
     memcpy(lent.two, message, W * (LANES - lane));
 }
 static void set_change(void) { set_row(0); }
+static void set_run(void) { set_row(LANE); }
 static void set_listed(void) {
     for (unsigned i = 0; i < K; i++) lent.one[i] = (uint8_t)((7 * i + 3) % N);
     set_symbols(lent.two, K * LANES);
@@ -215,6 +219,7 @@ static const struct call calls[] = {
     { "listed_to_nodes", run_listed_to_nodes, set_plain, { RECORD, VALUE(LANES), READ(one, W * K * LANES), WRITTEN(BYTES, two, W * K * LANES, "by_node") } },
     { "differences", run_differences, set_change, { RECORD, VALUE(LANES), VALUE(SYMBOL), READ(one, W * LANES), READ(two, W * LANES), WRITTEN(BYTES, three, W * N * LANES, "differences") } },
     { "add_share", run_add_share, set_change, { RECORD, VALUE(LANES), READ(one, W * LANES), WRITTEN(BYTES, two, W * LANES, "share") } },
+    { "update_lanes", run_update_lanes, set_run, { RECORD, VALUE(LANES), VALUE(SYMBOL), VALUE(LANE), READ(one, W * RUN), READ(two, W * RUN), WRITTEN(BYTES, three, W * N * LANES, "shares"), GIVES(first, "altered") } },
     { "weights", run_weights, set_small, { RECORD, WRITTEN(WORDS, first, N + 1, "counts") } },
     { "carried_len", run_carried_len, set_carried_bytes, { RECORD, { LENGTH, NULL, CARRIED, NULL }, { SIZES, &lent.size, 0, "carried_len" } } },
     { "carry_in", run_carry_in, set_carried_bytes, { RECORD, READ(one, CARRIED), WRITTEN(BYTES, two, CARRYING, "symbols") } },

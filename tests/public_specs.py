@@ -19,7 +19,7 @@ from house import declarations, read, short  # noqa: E402
 # whose functions are the programs' texts
 TEXTS = "sheet_text plain_text compare_text weights_text small_plans_text tables".split()
 # whose functions are the library's calls, those for C, and what stands behind them
-CALLS = "plan encode update differences rearrange recover repair belongs correct roster weight_counts find_update mends roster_bytes balanced_c balanced_c_c".split()
+CALLS = "plan encode update update_lanes differences rearrange recover repair belongs correct roster weight_counts find_update mends roster_bytes balanced_c balanced_c_c".split()
 STATED = ("demands",)
 USE = re.compile(r"(?m)^(?:pub |ghost )*use Rattle\.(\w+)\.specs\.([\w.]+?)(?:\.\{([^}]*)\})?(?: as (\w+))?;?$")
 WORD = re.compile(r"[^\s(){}\[\],;.:]+")

@@ -1,8 +1,8 @@
 /*
  * Cuts the bytes of a file into blocks, of which the last is padded with zeros, encodes each, and keeps its shares node after node, as n
  * nodes would. It drops n-k of them, recovers the message from the k that are left, and compares. Then it rebuilds every share,
- * and changes a symbol in all lanes by what each node has to add. A file of a whole number of blocks has no padding, and an empty one no
- * block.
+ * changes a symbol in all lanes by what each node has to add, and in a run of lanes in place. A file of a whole number of blocks has no
+ * padding, and an empty one no block.
  *
  *     make -C examples/c check
  */
@@ -104,6 +104,23 @@ static void change(size_t n, size_t k, size_t d, uint8_t *message, uint8_t *kept
     free(anew);
 }
 
+/* The same in lanes 100 to 199 alone, of shares that stand together, lane after lane; each lane is judged. */
+static void change_run(size_t n, size_t k, size_t d, uint8_t *message, uint8_t *kept) {
+    uint8_t *shares = room(n * LANES), *anew = room(n * LANES), *old = message + 3 * LANES + 100, run[100];
+    uint32_t altered;
+
+    accepted("to lanes", balanced_to_lanes(record, sizeof record, LANES, kept, n * LANES, shares, n * LANES));
+    memset(run, 0xff, sizeof run);
+    accepted("update lanes", balanced_update_lanes(record, sizeof record, LANES, 3, 100, old, sizeof run, run, sizeof run, shares, n * LANES, &altered));
+    if (altered % d != 0) fail("another number of nodes was altered", altered);
+    memcpy(old, run, sizeof run);
+    lay_out(n, k, message, anew);
+    accepted("to nodes", balanced_to_nodes(record, sizeof record, LANES, shares, n * LANES, kept, n * LANES));
+    if (memcmp(kept, anew, n * LANES) != 0) fail("the updated shares differ", 0);
+    free(shares);
+    free(anew);
+}
+
 int main(int argc, char **argv) {
     uint8_t numbers[BALANCED_PLAN_NUMBERS], shifts[BALANCED_PLAN_SHIFTS], firsts[BALANCED_PLAN_FIRSTS];
     uint16_t base[BALANCED_PLAN_BASE];
@@ -130,6 +147,7 @@ int main(int argc, char **argv) {
         lay_out(n, k, message, kept);
         keep(n, k, i, message, kept);
         change(n, k, d, message, kept);
+        change_run(n, k, d, message, kept);
     }
     printf("%lu bytes in %lu blocks: %lu of %lu shares dropped, every message and share got back\n", (unsigned long)size,
            (unsigned long)blocks, (unsigned long)(n - k), (unsigned long)n);

@@ -10,7 +10,7 @@ from balanced import (
 from carry import carried_len, carry_change, carry_in, carry_out
 from choose import choose
 from data import block, refused
-from differences import add_share, differences
+from differences import add_share, differences, update_lanes
 from rearranged import listed_to_lanes, listed_to_nodes
 from roster import History
 from traces import repair_bits, repair_plan, repair_share
@@ -20,6 +20,7 @@ CALLS = {
     "plan": [],
     "encode": ["lanes", "message", "room"],
     "update": ["lanes", "symbol", "lane", "old", "new", "shares"],
+    "update_lanes": ["lanes", "symbol", "lane", "before", "after", "shares"],
     "belongs": ["lanes", "shares"],
     "correct": ["lanes", "shares"],
     "recover": ["lanes", "nodes", "shares", "room"],
@@ -48,6 +49,7 @@ CALLS = {
     "choose": ["n", "k", "room"],
 }
 NO_RECORD = {"choose"}
+ALTERERS = {"update": update, "update_lanes": update_lanes, "correct": correct}
 WRITERS = {
     "encode": encode, "recover": recover, "rebuild": rebuild, "to_lanes": to_lanes, "to_nodes": to_nodes,
     "listed_to_lanes": listed_to_lanes, "listed_to_nodes": listed_to_nodes, "repair_bits": repair_bits, "repair_share": repair_share,
@@ -88,8 +90,8 @@ def answer(name, record, arguments):
         numbers = f"n {plan.n} k {plan.k} d {plan.d} reads {plan.low} {plan.high}"
         rows = f"shifts{block(bytes(plan.shifts))} then 0 firsts{block(bytes(plan.firsts))} then 0"
         return f"{numbers} {rows} base{block(plan.bytes(plan.entries[0]))} then 0"
-    if name in ("update", "correct"):
-        number, result = (update if name == "update" else correct)(record, *arguments)
+    if name in ALTERERS:
+        number, result = ALTERERS[name](record, *arguments)
         return refused(number) if number else f"altered {result[0]} shares{block(result[1])}"
     if name == "belongs":
         number, lane = belongs(record, *arguments)

@@ -45,20 +45,25 @@ def add_share(record, lanes, difference, share):
 def update_lanes(record, lanes, symbol, first, old, new, shares):
     """(number, (count, shares afterwards)): lane first + i changes from symbol i of `old` to symbol i of `new`.
 
-    Every lane is judged before one is changed: 12 where some of them is no word, else 13 where some message holds another symbol.
+    Every lane is judged before one is changed, in their order: 12 where the first that may not change is no word, 13 where its message holds another symbol.
     """
 
     def run(plan):
         """The lanes that are to change."""
         return lanes_of(plan.symbols(shares), plan.n)[first:first + len(old) // plan.size(1)]
 
+    def stale(plan, lane, held):
+        """The lane's number, or 0."""
+        return 12 if not plan.is_word(lane) else 13 if plan.message(lane)[symbol] != held else 0
+
     def faults(plan):
         yield 7, lanes_bad(lanes)
         yield 8, len(old) != len(new) or len(old) % plan.size(1) != 0 or len(shares) != plan.size(plan.n * lanes)
         yield 9, symbol >= plan.k or first + len(old) // plan.size(1) > lanes
         yield 11, symbols_bad(plan, old) or symbols_bad(plan, new) or any(above(plan, lane) for lane in run(plan))
-        yield 12, not all(plan.is_word(lane) for lane in run(plan))
-        yield 13, [plan.message(lane)[symbol] for lane in run(plan)] != list(plan.symbols(old))
+        number = next(filter(None, (stale(plan, *each) for each in zip(run(plan), plan.symbols(old)))), 0)
+        yield 12, number == 12
+        yield 13, number == 13
 
     def work(plan):
         before = list(plan.symbols(shares))

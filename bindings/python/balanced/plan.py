@@ -103,6 +103,21 @@ class Plan(Changes, Carrying, Rearranged, Repairs):
         (altered,) = call("update", self.record, lanes, symbol, lane, old, new, shares)
         return altered
 
+    def update_lanes(
+        self, lanes: int, symbol: int, first: int, old: ReadableBuffer, new: ReadableBuffer, shares: WriteableBuffer
+    ) -> int:
+        """`update` for the lanes from `first` on at once, one for each symbol of `old` and `new`: gives the number of symbols altered.
+
+        Every lane is judged before one changes, in their order; the first that does not encode a message, or whose message
+        does not hold the old symbol, raises the error that `update` raises.
+
+        >>> plan, shares = Plan([1, 7, 3, 6, 3]), bytearray([6, 1, 1, 3, 6, 2, 0, 6, 1, 3, 1, 0])
+        >>> plan.update_lanes(2, 1, 0, bytes([0, 5]), bytes([5, 5]), shares), shares.hex(" ", 6)
+        (4, '000601030100 000601030100')
+        """
+        (altered,) = call("update_lanes", self.record, lanes, symbol, first, old, new, shares)
+        return altered
+
     def recover(
         self, lanes: int, nodes: Iterable[int], shares: ReadableBuffer, into: Into | None = None
     ) -> Into | bytearray:

@@ -52,6 +52,10 @@ CALLS: dict[str, tuple[Parameter, ...]] = {
         RECORD, LANES, Number("symbol"), Number("lane"), Number("old_symbol"), Number("new_symbol"), written("shares"),
         Result("altered"),
     ),
+    "update_lanes": (
+        RECORD, LANES, Number("symbol"), Number("first"), read("old_symbols"), read("new_symbols"), written("shares"),
+        Result("altered"),
+    ),
     "recover": (RECORD, LANES, NODES, read("shares"), written("message")),
     "rebuild": (RECORD, LANES, NODES, read("shares"), Number("target"), written("share")),
     "belongs": (RECORD, LANES, read("shares"), Result("first_wrong")),

@@ -1,7 +1,7 @@
-//! Changes of one symbol in many lanes: what each node has to add.
+//! Changes of one symbol in many lanes: what each node has to add, and Update for a run of lanes.
 use crate::{sys, Error, Plan};
 
-// Each call lends slices, which are not null, have the length beside them and do not overlap.
+// Each call lends slices and a local, which are not null, have the length beside them and do not overlap.
 
 /// What each node has to add where one symbol changes in every lane, node after node.
 ///
@@ -74,6 +74,54 @@ pub fn add_share(record: &[u8], lanes: u32, difference: &[u8], share: &mut [u8])
     Error::check(number)
 }
 
+/// [`update`](crate::update) for a run of lanes at once: lane `first` + i changes from symbol i of `old` to symbol i of `new`. Gives the
+/// number of symbols that it altered.
+///
+/// `old` and `new` have equally many symbols, and the run ends within the block. Every lane is judged before anything is written, in their order: each
+/// must encode a message, else the call meets [`Error::Word`], and this message must hold the old symbol, else it meets [`Error::Stale`]; the
+/// first lane that does not decides. A run of no lanes changes nothing.
+///
+/// ```
+/// use balanced::{Error, Plan};
+///
+/// let plan = Plan::new(&[1, 7, 3, 6, 3])?;
+/// let mut shares = [6, 1, 1, 3, 6, 2, 0, 6, 1, 3, 1, 0]; // the messages 1 0 2 and 1 5 2
+/// assert_eq!(plan.update_lanes(2, 1, 0, &[0, 5], &[5, 5], &mut shares)?, 4);
+/// assert_eq!(shares, [0, 6, 1, 3, 1, 0, 0, 6, 1, 3, 1, 0]);
+/// // lane 1 does not hold 4 there: neither lane changes
+/// assert_eq!(plan.update_lanes(2, 1, 0, &[5, 4], &[0, 0], &mut shares), Err(Error::Stale));
+/// assert_eq!(shares, [0, 6, 1, 3, 1, 0, 0, 6, 1, 3, 1, 0]);
+/// # Ok::<(), Error>(())
+/// ```
+pub fn update_lanes(
+    record: &[u8],
+    lanes: u32,
+    symbol: u32,
+    first: u32,
+    old: &[u8],
+    new: &[u8],
+    shares: &mut [u8],
+) -> Result<u32, Error> {
+    let mut altered = 0;
+    let number = unsafe {
+        sys::balanced_update_lanes(
+            record.as_ptr(),
+            record.len(),
+            lanes,
+            symbol,
+            first,
+            old.as_ptr(),
+            old.len(),
+            new.as_ptr(),
+            new.len(),
+            shares.as_mut_ptr(),
+            shares.len(),
+            &mut altered,
+        )
+    };
+    Error::check(number).map(|()| altered)
+}
+
 impl Plan {
     /// [`differences`](crate::differences()) with this plan's record.
     pub fn differences(&self, lanes: u32, symbol: u32, old: &[u8], new: &[u8], out: &mut [u8]) -> Result<(), Error> {
@@ -83,5 +131,18 @@ impl Plan {
     /// [`add_share`](crate::add_share) with this plan's record.
     pub fn add_share(&self, lanes: u32, difference: &[u8], share: &mut [u8]) -> Result<(), Error> {
         add_share(self.record(), lanes, difference, share)
+    }
+
+    /// [`update_lanes`](crate::update_lanes) with this plan's record.
+    pub fn update_lanes(
+        &self,
+        lanes: u32,
+        symbol: u32,
+        first: u32,
+        old: &[u8],
+        new: &[u8],
+        shares: &mut [u8],
+    ) -> Result<u32, Error> {
+        update_lanes(self.record(), lanes, symbol, first, old, new, shares)
     }
 }

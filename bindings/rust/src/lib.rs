@@ -180,7 +180,7 @@ pub use calls::{
     belongs, correct, encode, listed_to_lanes, listed_to_nodes, rebuild, recover, to_lanes, to_nodes, update, weights,
 };
 pub use carry::{carried_len, carry_change, carry_in, carry_out, choose};
-pub use differences::{add_share, differences};
+pub use differences::{add_share, differences, update_lanes};
 pub use error::Error;
 pub use lanes::{find_update, mends, Finding};
 pub use plan::Plan;

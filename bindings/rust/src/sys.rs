@@ -42,6 +42,21 @@ extern "C" {
         altered: *mut u32,
     ) -> u8;
 
+    pub fn balanced_update_lanes(
+        record: *const u8,
+        record_len: usize,
+        lanes: u32,
+        symbol: u32,
+        first: u32,
+        old_symbols: *const u8,
+        old_len: usize,
+        new_symbols: *const u8,
+        new_len: usize,
+        shares: *mut u8,
+        shares_len: usize,
+        altered: *mut u32,
+    ) -> u8;
+
     pub fn balanced_differences(
         record: *const u8,
         record_len: usize,

@@ -16,4 +16,5 @@ pub use recover::{rebuild_share, recover_block};
 pub use repair::{RepairPlan, repair_bits, repair_plan, repair_share};
 pub use roster::{Listing, Roster};
 pub use update::update_lane;
+pub use update_lanes::update_lanes;
 pub use weight_counts::weight_counts;

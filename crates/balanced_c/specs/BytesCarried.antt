@@ -24,9 +24,9 @@ pub record CarryOutGives (rec symbols out out' : List ℕ) (f : ℕ) : Type 0 wh
   pub says : CarryOutSays rec symbols out out' (outcome_of f)
 
 -- `balanced_carry_change`: the number, and what the call says of the symbols
-pub record CarryChangeGives (rec : List ℕ) (n at : ℕ) (bytes symbols symbols' : List ℕ) (r : ℕ) : Type 0 where
-  pub number : r ≡ fault_of rec (λ h. carry_change_fault h n at (length bytes) symbols)
-  pub says : CarryChangeSays rec n at bytes symbols symbols' (outcome_of r)
+pub record CarryChangeGives (rec : List ℕ) (count at : ℕ) (bytes symbols symbols' : List ℕ) (f : ℕ) : Type 0 where
+  pub number : f ≡ fault_of rec (λ h. carry_change_fault h count at (length bytes) symbols)
+  pub says : CarryChangeSays rec count at bytes symbols symbols' (outcome_of f)
 
 -- `balanced_choose`: the number, what the call says of the record, and how many bytes it has
 pub record ChooseGives (n k : ℕ) (out : List ℕ) (len : ℕ) (out' : List ℕ) (len' f : ℕ) : Type 0 where

@@ -19,7 +19,7 @@ pub use bytes_carried::{
     balanced_carried_len, balanced_carry_change, balanced_carry_in, balanced_carry_out,
     balanced_choose,
 };
-pub use changes::{balanced_add_share, balanced_differences};
+pub use changes::{balanced_add_share, balanced_differences, balanced_update_lanes};
 pub use correction::balanced_correct;
 use generator::Refusal;
 pub use one_lane::{balanced_find_update, balanced_mends};

@@ -4,7 +4,7 @@
 
 ghost use Rattle.std.specs.Prelude.{◌≡◌};
 ghost use Rattle.balanced_c.specs.Calls.{PlanGives, EncodeGives, UpdateGives, RecoverGives, RebuildGives, BelongsGives, WeightsGive, ToLanesGives, ToNodesGives, ListedToLanesGives, ListedToNodesGives};
-ghost use Rattle.balanced_c.specs.RowChanges.{DifferencesGives, AddGives};
+ghost use Rattle.balanced_c.specs.RowChanges.{DifferencesGives, AddGives, UpdateLanesGives};
 ghost use Rattle.balanced_c.specs.Corrections.{CorrectGives};
 ghost use Rattle.balanced_c.specs.Lanes.{FindGives, MendsGive};
 ghost use Rattle.balanced_c.specs.Repairs.{RepairPlanGives, RepairBitsGives, RepairShareGives};
@@ -180,6 +180,23 @@ pub extern "C" fn balanced_add_share(
     ensures { AddGives rec.now lanes difference.now share.old share.new result }
 {
     balanced_c::balanced_add_share(rec, lanes, difference, share)
+}
+
+// Update for a run of lanes: `altered` receives how many symbols were altered.
+#[unsafe(no_mangle)]
+pub extern "C" fn balanced_update_lanes(
+    rec: &[u8],
+    lanes: u32,
+    symbol: u32,
+    first: u32,
+    old: &[u8],
+    new: &[u8],
+    shares: &mut [u8],
+    altered: &mut u32,
+) -> u8
+    ensures { UpdateLanesGives rec.now lanes symbol first old.now new.now shares.old altered.old shares.new altered.new result }
+{
+    balanced_c::balanced_update_lanes(rec, lanes, symbol, first, old, new, shares, altered)
 }
 
 // Each lane becomes the word of the code nearest to it; `altered` receives how many symbols were altered.

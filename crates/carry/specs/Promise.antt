@@ -26,13 +26,13 @@ carry_in_fault h count out_len = first_of (carried_len_fault h count) (when (len
 unfoldable pub carry_out_fault : Header → ℕ → List ℕ → ℕ
 carry_out_fault h count symbols = first_of (carry_in_fault h count (length symbols)) (when (symbols_bad h symbols) 11)
 
--- number 9: a part of n bytes ends behind them
+-- number 9: a part of `count` bytes ends behind them
 unfoldable pub part_bad : ℕ → ℕ → ℕ → Bool
-part_bad n at count = ltb n (at + count)
+part_bad count at part = ltb count (at + part)
 
--- `count` bytes changed, from `at` on, of n bytes that symbols carry
+-- a part of `count` bytes that symbols carry, from `at` on, changed
 unfoldable pub carry_change_fault : Header → ℕ → ℕ → ℕ → List ℕ → ℕ
-carry_change_fault h n at count symbols = first_of (carry_in_fault h n (length symbols)) (first_of (when (part_bad n at count) 9) (when (symbols_bad h symbols) 11))
+carry_change_fault h count at part symbols = first_of (carry_in_fault h count (length symbols)) (first_of (when (part_bad count at part) 9) (when (symbols_bad h symbols) 11))
 
 -- so many bytes, or the number
 pub record CarriedLenPromise (count : ℕ) (answer : Answer ℕ) (h : Header) (f : ℕ) : Type 0 where
@@ -64,7 +64,7 @@ abbrev pub CarryOutSays : List ℕ → List ℕ → List ℕ → List ℕ → An
 CarryOutSays rec symbols out out' answer = OnRecord rec (λ h. carry_out_fault h (length out) symbols) (CarryOutPromise symbols out out' answer)
 
 abbrev pub CarryChangeSays : List ℕ → ℕ → ℕ → List ℕ → List ℕ → List ℕ → Answer (Unit {0}) → Type 0
-CarryChangeSays rec n at bytes symbols symbols' answer = OnRecord rec (λ h. carry_change_fault h n at (length bytes) symbols) (CarryChangePromise at bytes symbols symbols' answer)
+CarryChangeSays rec count at bytes symbols symbols' answer = OnRecord rec (λ h. carry_change_fault h count at (length bytes) symbols) (CarryChangePromise at bytes symbols symbols' answer)
 
 -- symbols that carry bytes: they are symbols, and the third call is done with room for as many bytes, and writes these bytes
 pub record Carries (rec bytes symbols : List ℕ) : Type 0 where

@@ -19,12 +19,12 @@ unfoldable pub changed_group : ℕ → ℕ → List ℕ → List ℕ → List �
 changed_group p at bs [] = []
 changed_group p at bs (c ∷ xs) = let ws = symbols_of 2 (part_replaced at bs (bytes_of 2 (masked c xs))) in covered (mask_after p c ws) ws
 
--- f groups at most, of m words: each takes of the part what lies in it, and leaves the rest to those behind it
+-- so many groups at most, of `words` words: each takes of the part what lies in it, and leaves the rest to those behind it
 unfoldable pub changed_from : ℕ → ℕ → ℕ → ℕ → List ℕ → List ℕ → List ℕ
-changed_from p m zero at bs xs = []
-changed_from p m (suc f) at bs [] = []
-changed_from p m (suc f) at bs (x ∷ xs) =
-    changed_group p at (take (m * 2 - at) bs) (take (m + 1) (x ∷ xs)) ++ changed_from p m f (at - m * 2) (drop (m * 2 - at) bs) (drop (m + 1) (x ∷ xs))
+changed_from p words zero at bs xs = []
+changed_from p words (suc more) at bs [] = []
+changed_from p words (suc more) at bs (x ∷ xs) =
+    changed_group p at (take (words * 2 - at) bs) (take (words + 1) (x ∷ xs)) ++ changed_from p words more (at - words * 2) (drop (words * 2 - at) bs) (drop (words + 1) (x ∷ xs))
 
 -- .. all groups
 unfoldable pub changed_symbols : ℕ → ℕ → List ℕ → List ℕ → List ℕ

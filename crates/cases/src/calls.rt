@@ -31,6 +31,7 @@ pub fn call(alloc: Global, line: &str, roster: &mut Roster) -> Result<String, Fa
         "listed_to_lanes" => arrange(words, balanced::listed_to_lanes),
         "listed_to_nodes" => arrange(words, balanced::listed_to_nodes),
         "update" => shares::update(words),
+        "update_lanes" => shares::update_lanes(words),
         "belongs" => shares::belongs(words),
         "correct" => shares::correct(words),
         "add_share" => shares::add_share(words),

@@ -55,6 +55,17 @@ pub fn update(words: &mut Words) -> Result<String, Fault> {
     })
 }
 
+pub fn update_lanes(words: &mut Words) -> Result<String, Fault> {
+    let (record, lanes) = block(words)?;
+    let symbol = words.number("symbol")?;
+    let first = words.number("lane")?;
+    let old = words.bytes("before")?;
+    let new = words.bytes("after")?;
+    altered(words, |shares| {
+        balanced::update_lanes(&record, lanes, symbol, first, &old, &new, shares)
+    })
+}
+
 pub fn correct(words: &mut Words) -> Result<String, Fault> {
     let (record, lanes) = block(words)?;
     altered(words, |shares| {

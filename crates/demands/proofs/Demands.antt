@@ -14,6 +14,7 @@ use Rattle.demands.proofs.RosterRefusals.{roster_refusals}
 use Rattle.demands.proofs.Interface.{interface}
 use Rattle.demands.proofs.Coding.{code_demands}
 use Rattle.demands.proofs.Updates.{update_demands}
+use Rattle.demands.proofs.UpdateRuns.{update_runs}
 use Rattle.demands.proofs.Calls.{call_demands}
 use Rattle.demands.proofs.RoundTrips.{round_trips}
 use Rattle.demands.proofs.Plans.{plans}
@@ -44,6 +45,7 @@ demands =
       ours = λ rec none. record { code = ours (header_of rec) (faultless_sound rec none); scheme = our_scheme (header_of rec) (faultless_sound rec none) };
       least = λ rec none S C t x y two. scheme_least (header_of rec) (faultless_sound rec none) t x y two;
       updating = λ rec none. update_demands (header_of rec) (faultless_sound rec none);
+      update_runs = update_runs;
       calls = call_demands;
       trips = round_trips;
       plans = plans;

@@ -21,6 +21,7 @@ use Rattle.belongs.specs.Promise.{belongs_fault}
 use Rattle.belongs.proofs.Accepts.{belongs_accepts}
 use Rattle.recover.specs.Promise.{recover_fault, rebuild_fault}
 use Rattle.update.specs.Promise.{update_fault}
+use Rattle.update_lanes.specs.Promise.{run_fault}
 use Rattle.encode.specs.Promise.{encode_fault}
 use Rattle.refusals.specs.Faults.{fault_of}
 use Rattle.refusals.proofs.OnRecord.{none_met}
@@ -36,12 +37,12 @@ use Rattle.mends.specs.Promise.{mends_fault}
 use Rattle.weight_counts.specs.Weights.{weights_fault}
 use Rattle.balanced_c.specs.Calls.{plan_room_fault, numbers_of, PlanGives, EncodeGives, UpdateGives, RecoverGives, RebuildGives, BelongsGives, RearrangeGives, WeightsGive}
 use Rattle.balanced_c.specs.Corrections.{CorrectGives}
-use Rattle.balanced_c.specs.RowChanges.{DifferencesGives, AddGives}
+use Rattle.balanced_c.specs.RowChanges.{DifferencesGives, AddGives, UpdateLanesGives}
 use Rattle.balanced_c.specs.Lanes.{found_in, FindGives, MendsGive}
 use Rattle.demands.specs.Calls.{read, AllWords, SmallestWrong}
 use Rattle.demands.specs.Findings.{InNumbers}
 use Rattle.demands.specs.Judging.{Judged, Returns}
-use Rattle.demands.specs.Numbers.{record_numbers, encode_numbers, update_numbers, recover_numbers, rebuild_numbers, belongs_numbers, correct_numbers, rearrange_numbers, differences_numbers, add_numbers, find_numbers, mends_numbers, weights_numbers}
+use Rattle.demands.specs.Numbers.{record_numbers, encode_numbers, update_numbers, run_numbers, recover_numbers, rebuild_numbers, belongs_numbers, correct_numbers, rearrange_numbers, differences_numbers, add_numbers, find_numbers, mends_numbers, weights_numbers}
 use Rattle.demands.specs.Interface.{plan_numbers, PlanWritten, Interface}
 use Rattle.demands.proofs.Judging.{Tells, line, last, by_number}
 use Rattle.demands.proofs.Conditions.{other_test}
@@ -49,6 +50,7 @@ use Rattle.demands.proofs.Calls.{rows_are}
 use Rattle.demands.proofs.Coding.{code_demands}
 use Rattle.demands.proofs.Findings.{in_numbers}
 use Rattle.demands.proofs.Numbers.{own_after, encode_tells, update_tells, recover_tells, rebuild_tells, belongs_tells, correct_tells, rearrange_tells, differences_tells, add_tells, find_tells, mends_tells, weights_tells}
+use Rattle.demands.proofs.RunNumbers.{run_tells}
 
 -- four lengths under one number
 four_lengths : (a b c d : Bool) → when (not (a && (b && (c && d)))) 8 ≡ first_of (when (not a) 8) (first_of (when (not b) 8) (first_of (when (not c) 8) (when (not d) 8)))
@@ -97,6 +99,11 @@ module _ (rec : List ℕ) where
     update : (symbol lane old new : ℕ) (shares : List ℕ) (altered : ℕ) (shares' : List ℕ) (altered' r : ℕ) → UpdateGives rec l symbol lane old new shares altered shares' altered' r → Judged (record_numbers rec ++ update_numbers h l symbol lane old new shares) (Returns r) ((shares' ≡ shares) × (altered' ≡ altered))
     update symbol lane old new shares altered shares' altered' r g =
         by_number g.number (own_after rec _ (λ h. update_fault share_layout h l symbol lane old new shares) refl (λ none. update_tells h (faultless_sound rec none) l symbol lane old new shares))
+        (λ some. (rw (← g.number, ne_eqb r 0 some) at g.says.promise.written, rw (ne_eqb r 0 some) at g.altered_is))
+
+    update_lanes : (symbol first : ℕ) (old new shares : List ℕ) (altered : ℕ) (shares' : List ℕ) (altered' r : ℕ) → UpdateLanesGives rec l symbol first old new shares altered shares' altered' r → Judged (record_numbers rec ++ run_numbers h l symbol first old new shares) (Returns r) ((shares' ≡ shares) × (altered' ≡ altered))
+    update_lanes symbol first old new shares altered shares' altered' r g =
+        by_number g.number (own_after rec _ (λ h. run_fault h l symbol first old new shares) refl (λ none. run_tells h (faultless_sound rec none) l symbol first old new shares))
         (λ some. (rw (← g.number, ne_eqb r 0 some) at g.says.promise.written, rw (ne_eqb r 0 some) at g.altered_is))
 
     module _ (nodes shares : List ℕ) where
@@ -180,6 +187,7 @@ interface =
       plan_done = plan_done;
       encode = encode;
       update = update;
+      update_lanes = update_lanes;
       recover = recover;
       rebuild = rebuild;
       belongs = belongs;

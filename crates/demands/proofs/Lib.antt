@@ -8,6 +8,7 @@ pub mod Calls
 pub mod RoundTrips
 pub mod RecordNumbers
 pub mod Numbers
+pub mod RunNumbers
 pub mod Refusals
 pub mod RosterRefusals
 pub mod Plans
@@ -18,6 +19,7 @@ pub mod Findings
 pub mod Rosters
 pub mod BadReads
 pub mod Differences
+pub mod UpdateRuns
 pub mod Weights
 pub mod SmallPlans
 pub mod Mending

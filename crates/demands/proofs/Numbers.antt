@@ -69,7 +69,7 @@ module _ (h : Header) where
   unfolding symbols_bad
   symbols_mean s = some_from (size h) _
 
-  lane_means : (l t : ℕ) (shares : List ℕ) → (lane_bad share_layout h l t shares ≡ true) ↔ SomeFrom (size h) (lane_in h l shares t)
+  pub lane_means : (l t : ℕ) (shares : List ℕ) → (lane_bad share_layout h l t shares ≡ true) ↔ SomeFrom (size h) (lane_in h l shares t)
   unfolding lane_bad
   lane_means l t shares = some_from (size h) _
 

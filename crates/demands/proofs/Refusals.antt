@@ -14,6 +14,7 @@ use Rattle.generator.proofs.Answered.{refused_is, answer_refused}
 use Rattle.belongs.specs.Promise.{belongs_fault, BelongsSays}
 use Rattle.recover.specs.Promise.{recover_fault, rebuild_fault, RecoverSays, RebuildSays}
 use Rattle.update.specs.Promise.{update_fault, UpdateSays}
+use Rattle.update_lanes.specs.Promise.{run_fault, RunSays}
 use Rattle.encode.specs.Promise.{encode_fault, EncodeSays}
 use Rattle.rearrange.specs.Promise.{RearrangeSays, rearrange_fault}
 use Rattle.differences.specs.Promise.{differences_fault, add_fault, DifferencesSays, AddSays}
@@ -23,10 +24,11 @@ use Rattle.find_update.specs.Promise.{find_fault, FindSays}
 use Rattle.mends.specs.Promise.{mends_fault, MendsSay}
 use Rattle.weight_counts.specs.Weights.{weights_fault, WeightsSay}
 use Rattle.demands.specs.Judging.{Table, Judged}
-use Rattle.demands.specs.Numbers.{record_numbers, encode_numbers, update_numbers, recover_numbers, rebuild_numbers, belongs_numbers, correct_numbers, rearrange_numbers, differences_numbers, add_numbers, find_numbers, mends_numbers, weights_numbers}
+use Rattle.demands.specs.Numbers.{record_numbers, encode_numbers, update_numbers, run_numbers, recover_numbers, rebuild_numbers, belongs_numbers, correct_numbers, rearrange_numbers, differences_numbers, add_numbers, find_numbers, mends_numbers, weights_numbers}
 use Rattle.demands.specs.Refusals.{Refusals}
 use Rattle.demands.proofs.Judging.{Tells, call_judged, by_answer}
 use Rattle.demands.proofs.Numbers.{own_after, encode_tells, update_tells, recover_tells, rebuild_tells, belongs_tells, correct_tells, rearrange_tells, differences_tells, add_tells, find_tells, mends_tells, weights_tells}
+use Rattle.demands.proofs.RunNumbers.{run_tells}
 
 -- a call that answers by its number
 pub by_outcome : {A : Type 0} {table : Table} {kept : Type 0} {number : ℕ} {r : Answer A} (v : A) → Tells table number → r ≡ answer_of number v → ((number ≡ 0 → ⊥) → kept) → Judged table (λ f. r ≡ Err f) kept
@@ -45,6 +47,11 @@ module _ (rec : List ℕ) where
     update : (r t old new : ℕ) (shares shares' : List ℕ) (a : Answer ℕ) → UpdateSays rec l r t old new shares shares' a → Judged (record_numbers rec ++ update_numbers h l r t old new shares) (λ f. a ≡ Err f) (shares' ≡ shares)
     update r t old new shares shares' a says =
         by_outcome _ (own_after rec _ (λ h. update_fault share_layout h l r t old new shares) refl (λ none. update_tells h (faultless_sound rec none) l r t old new shares)) says.promise.answered
+        (λ some. rw (ne_eqb _ 0 some) at says.promise.written)
+
+    update_lanes : (r first : ℕ) (old new shares shares' : List ℕ) (a : Answer ℕ) → RunSays rec l r first old new shares shares' a → Judged (record_numbers rec ++ run_numbers h l r first old new shares) (λ f. a ≡ Err f) (shares' ≡ shares)
+    update_lanes r first old new shares shares' a says =
+        by_outcome _ (own_after rec _ (λ h. run_fault h l r first old new shares) refl (λ none. run_tells h (faultless_sound rec none) l r first old new shares)) says.promise.answered
         (λ some. rw (ne_eqb _ 0 some) at says.promise.written)
 
     module _ (nodes shares : List ℕ) where
@@ -101,6 +108,7 @@ refusals =
     record {
       encode = encode;
       update = update;
+      update_lanes = update_lanes;
       recover = recover;
       rebuild = rebuild;
       belongs = belongs;

@@ -40,7 +40,7 @@ use Rattle.demands.proofs.Judging.{Tells, line, last, told}
 use Rattle.demands.proofs.Conditions.{not_test, other_test}
 
 -- how many nodes a change alters
-count : (h : Header) → Sound h → (ms : List ℕ) (r new : ℕ) → is_message h ms ≡ true → r < h.k → new < size h → differ (encoding h ms) (encoding h (set ms r new)) ≡ pick (eqb new (get_or ms r 0)) 0 (distance h)
+pub count : (h : Header) → Sound h → (ms : List ℕ) (r new : ℕ) → is_message h ms ≡ true → r < h.k → new < size h → differ (encoding h ms) (encoding h (set ms r new)) ≡ pick (eqb new (get_or ms r 0)) 0 (distance h)
 count h s ms r new m row low =
     by_test (eqb new (get_or ms r 0))
     (λ t. rw t (ap (λ (u : List ℕ). differ (encoding h ms) (encoding h u)) (ap (set ms r) (eqb-true new (get_or ms r 0) t) ∙ set-get_or ms r 0) ∙ differ_same (encoding h ms)))

@@ -14,6 +14,7 @@ use Rattle.demands.specs.RosterRefusals.{RosterRefusals}
 use Rattle.demands.specs.Interface.{Interface}
 use Rattle.demands.specs.Coding.{CodeDemands}
 use Rattle.demands.specs.Updates.{UpdateDemands}
+use Rattle.demands.specs.UpdateRuns.{UpdateRuns}
 use Rattle.demands.specs.Calls.{CallDemands}
 use Rattle.demands.specs.RoundTrips.{RoundTrips}
 use Rattle.demands.specs.Plans.{Plans}
@@ -51,6 +52,8 @@ pub record Demands : Type 1 where
   pub least : (rec : List ℕ) (accepted : record_fault rec ≡ 0) (S : Type 0) (C : Fin (header_of rec).n → Type 0) (scheme : Scheme (header_of rec).k (header_of rec).n S C) (x x' : S) → x ≢ x' → CostsAtLeast scheme (ours rec accepted).scheme.scheme
   -- demand 3: updates
   pub updating : (rec : List ℕ) → record_fault rec ≡ 0 → UpdateDemands (header_of rec)
+  -- of a run of lanes at once
+  pub update_runs : UpdateRuns
   -- both of the calls themselves
   pub calls : CallDemands
   -- one call after the other

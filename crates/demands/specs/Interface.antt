@@ -5,12 +5,12 @@ use Rattle.plan.specs.declared.Plan.{Plan}
 use Rattle.plan.specs.Plans.{PlanSays}
 use Rattle.balanced_c.specs.Calls.{PlanGives, EncodeGives, UpdateGives, RecoverGives, RebuildGives, BelongsGives, ToLanesGives, ToNodesGives, ListedToLanesGives, ListedToNodesGives, WeightsGive}
 use Rattle.balanced_c.specs.Corrections.{CorrectGives}
-use Rattle.balanced_c.specs.RowChanges.{DifferencesGives, AddGives}
+use Rattle.balanced_c.specs.RowChanges.{DifferencesGives, AddGives, UpdateLanesGives}
 use Rattle.balanced_c.specs.Lanes.{FindGives, MendsGive}
 use Rattle.demands.specs.Calls.{read, AllWords, SmallestWrong}
 use Rattle.demands.specs.Findings.{InNumbers}
 use Rattle.demands.specs.Judging.{Table, Judged, Returns}
-use Rattle.demands.specs.Numbers.{record_numbers, encode_numbers, update_numbers, recover_numbers, rebuild_numbers, belongs_numbers, correct_numbers, rearrange_numbers, differences_numbers, add_numbers, find_numbers, mends_numbers, weights_numbers}
+use Rattle.demands.specs.Numbers.{record_numbers, encode_numbers, update_numbers, run_numbers, recover_numbers, rebuild_numbers, belongs_numbers, correct_numbers, rearrange_numbers, differences_numbers, add_numbers, find_numbers, mends_numbers, weights_numbers}
 
 -- `balanced_plan`: the lengths of its four buffers
 abbrev pub plan_numbers : ℕ → ℕ → ℕ → ℕ → Table
@@ -37,6 +37,9 @@ pub record Interface : Type 0 where
   -- balanced_update: `altered` is left too
   pub update : (rec : List ℕ) (l r t old new : ℕ) (shares : List ℕ) (altered : ℕ) (shares' : List ℕ) (altered' f : ℕ) → UpdateGives rec l r t old new shares altered shares' altered' f
       → Judged (record_numbers rec ++ update_numbers (header_of rec) l r t old new shares) (Returns f) ((shares' ≡ shares) × (altered' ≡ altered))
+  -- balanced_update_lanes: likewise
+  pub update_lanes : (rec : List ℕ) (l r first : ℕ) (old new shares : List ℕ) (altered : ℕ) (shares' : List ℕ) (altered' f : ℕ) → UpdateLanesGives rec l r first old new shares altered shares' altered' f
+      → Judged (record_numbers rec ++ run_numbers (header_of rec) l r first old new shares) (Returns f) ((shares' ≡ shares) × (altered' ≡ altered))
   -- balanced_recover
   pub recover : (rec : List ℕ) (l : ℕ) (nodes shares message message' : List ℕ) (f : ℕ) → RecoverGives rec l nodes shares message message' f
       → Judged (record_numbers rec ++ recover_numbers (header_of rec) l nodes shares (length message)) (Returns f) (message' ≡ message)

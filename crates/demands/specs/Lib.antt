@@ -5,9 +5,10 @@
 --   Numbers         the table of each call: what each number is given for, in plain terms
 --   Refusals, RosterRefusals, Interface    demand 1 of each call, of a roster's calls, and of the interface for C
 --   Coding          demand 2 of the definitions; Updates  demand 3's sentence on updates; Calls  both of the calls themselves; RoundTrips  one call after the other
---   Plans, Sheets, Widths, Tables, Findings, Rosters, BadReads, Differences, Weights, SmallPlans, Mending, Repairs, BytesInSymbols    a subject each
+--   Plans, Sheets, Widths, Tables, Findings, Rosters, BadReads, Differences, UpdateRuns, Weights, SmallPlans, Mending, Repairs, BytesInSymbols    a subject each
 pub mod Coding
 pub mod Updates
+pub mod UpdateRuns
 pub mod Calls
 pub mod RoundTrips
 pub mod Judging

@@ -6,6 +6,7 @@ use Rattle.generator.specs.Codewords.{encoding}
 use Rattle.generator.specs.Claims.{is_message, Codeword}
 use Rattle.generator.specs.Pinned.{PrimeFrom, HasOrder}
 use Rattle.correct.specs.Meaning.{NearWord, lane_in}
+use Rattle.update_lanes.specs.Runs.{run_length}
 use Rattle.demands.specs.Judging.{Table}
 use Rattle.demands.specs.Calls.{read}
 
@@ -69,6 +70,38 @@ stale_numbers h ws r old =
 
 abbrev pub update_numbers : Header → ℕ → ℕ → ℕ → ℕ → ℕ → List ℕ → Table
 update_numbers h l r t old new shares = given_numbers h l r t old new shares ++ stale_numbers h (lane_in h l shares t) r old
+
+-- Update of a run of lanes, of which there are as many as old symbols: what it is given ..
+abbrev pub run_input_numbers : Header → ℕ → ℕ → ℕ → List ℕ → List ℕ → List ℕ → Table
+run_input_numbers h l r first old new shares =
+    let m = run_length h old in
+    (7, OtherLanes l)
+    ∷ (8, length shares ≢ h.n * l * width h)
+    ∷ (8, length old ≢ m * width h)
+    ∷ (8, length new ≢ m * width h)
+    ∷ (9, h.k ≤ r)
+    ∷ (9, l < first + m)
+    ∷ (11, OtherSymbols h old)
+    ∷ (11, OtherSymbols h new)
+    ∷ (11, (i : ℕ) × (i < m) × SomeFrom (size h) (lane_in h l shares (first + i)))
+    ∷ []
+
+-- .. then the first lane of the run that may not change: one that may encodes a message with the old symbol
+abbrev pub MayChange : Header → List ℕ → ℕ → ℕ → Type 0
+MayChange h ws r old = (ms : List ℕ) × (is_message h ms ≡ true) × (encoding h ms ≡ ws) × (get_or ms r 0 ≡ old)
+
+abbrev pub LanesBefore : Header → ℕ → ℕ → ℕ → List ℕ → List ℕ → ℕ → Type 0
+LanesBefore h l r first old shares i = (x : ℕ) → x < i → MayChange h (lane_in h l shares (first + x)) r (get_or (read h old) x 0)
+
+abbrev pub run_stale_numbers : Header → ℕ → ℕ → ℕ → List ℕ → List ℕ → Table
+run_stale_numbers h l r first old shares =
+    let m = run_length h old in
+    (12, (i : ℕ) × (i < m) × LanesBefore h l r first old shares i × (Codeword h (lane_in h l shares (first + i)) → ⊥))
+    ∷ (13, (i : ℕ) × (i < m) × LanesBefore h l r first old shares i × ((ms : List ℕ) × (is_message h ms ≡ true) × (encoding h ms ≡ lane_in h l shares (first + i)) × (get_or ms r 0 ≡ get_or (read h old) i 0 → ⊥)))
+    ∷ []
+
+abbrev pub run_numbers : Header → ℕ → ℕ → ℕ → List ℕ → List ℕ → List ℕ → Table
+run_numbers h l r first old new shares = run_input_numbers h l r first old new shares ++ run_stale_numbers h l r first old shares
 
 -- Recover
 abbrev pub recover_numbers : Header → ℕ → List ℕ → List ℕ → ℕ → Table

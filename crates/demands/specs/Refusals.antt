@@ -6,6 +6,7 @@ use Rattle.generator.specs.Records.{header_of}
 use Rattle.belongs.specs.Promise.{BelongsSays}
 use Rattle.recover.specs.Promise.{RecoverSays, RebuildSays}
 use Rattle.update.specs.Promise.{UpdateSays}
+use Rattle.update_lanes.specs.Promise.{RunSays}
 use Rattle.encode.specs.Promise.{EncodeSays}
 use Rattle.rearrange.specs.Promise.{ToLanesSays, ToNodesSays, ListedToLanesSays, ListedToNodesSays}
 use Rattle.differences.specs.Promise.{DifferencesSays, AddSays}
@@ -15,7 +16,7 @@ use Rattle.find_update.specs.Promise.{FindSays}
 use Rattle.mends.specs.Promise.{MendsSay}
 use Rattle.weight_counts.specs.Weights.{WeightsSay}
 use Rattle.demands.specs.Judging.{Judged}
-use Rattle.demands.specs.Numbers.{record_numbers, encode_numbers, update_numbers, recover_numbers, rebuild_numbers, belongs_numbers, correct_numbers, rearrange_numbers, differences_numbers, add_numbers, find_numbers, mends_numbers, weights_numbers}
+use Rattle.demands.specs.Numbers.{record_numbers, encode_numbers, update_numbers, run_numbers, recover_numbers, rebuild_numbers, belongs_numbers, correct_numbers, rearrange_numbers, differences_numbers, add_numbers, find_numbers, mends_numbers, weights_numbers}
 
 pub record Refusals : Type 0 where
   -- Encode: no byte of the shares is written
@@ -24,6 +25,9 @@ pub record Refusals : Type 0 where
   -- Update: its lane is as it was, and so is every other
   pub update : (rec : List ℕ) (l r t old new : ℕ) (shares shares' : List ℕ) (answer : Answer ℕ) → UpdateSays rec l r t old new shares shares' answer
       → Judged (record_numbers rec ++ update_numbers (header_of rec) l r t old new shares) (λ f. answer ≡ Err f) (shares' ≡ shares)
+  -- Update of a run of lanes: no lane of it has changed, and no other
+  pub update_lanes : (rec : List ℕ) (l r first : ℕ) (old new shares shares' : List ℕ) (answer : Answer ℕ) → RunSays rec l r first old new shares shares' answer
+      → Judged (record_numbers rec ++ run_numbers (header_of rec) l r first old new shares) (λ f. answer ≡ Err f) (shares' ≡ shares)
   -- Recover: no byte of the message is written
   pub recover : (rec : List ℕ) (l : ℕ) (nodes shares out out' : List ℕ) (answer : Answer (Unit {0})) → RecoverSays rec l nodes shares out out' answer
       → Judged (record_numbers rec ++ recover_numbers (header_of rec) l nodes shares (length out)) (λ f. answer ≡ Err f) (out' ≡ out)

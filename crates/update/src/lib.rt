@@ -89,7 +89,7 @@ impl Update {
     // Judges its lane of the shares, which is handed on as the part from its start to the next one's.
     // The part's place is computed here and in `rewrite_lane`: `fn lane_bytes(self, w: Width, n: usize) -> Range<usize>` would take three lines
     // away from each, and be longer than they are, with a clause for the bounds under which its products fit and one for start and end.
-    fn judge_lane(self, generator: &Generator, shares: &[u8]) -> Result<(), Refusal>
+    pub fn judge_lane(self, generator: &Generator, shares: &[u8]) -> Result<(), Refusal>
         requires { UpdatableLane generator.now.codec.code.header self.lanes self.which self.lane shares.now }
         ensures { let h = generator.now.codec.code.header in numbered result ≡ outcome_of (stale_fault h (lane_of share_layout h.n self.lanes self.lane (symbols_of (width h) shares.now)) self.which self.old) }
     {
@@ -102,7 +102,7 @@ impl Update {
     }
 
     // Rewrites the lane, which is handed on likewise, and counts the nodes whose symbol becomes another one.
-    fn rewrite_lane(self, generator: &Generator, shares: &mut [u8]) -> u32
+    pub fn rewrite_lane(self, generator: &Generator, shares: &mut [u8]) -> u32
         requires { let h = generator.now.codec.code.header in UpdatableLane h self.lanes self.which self.lane shares.old × (self.old < size h) × (self.new < size h) }
         ensures { let h = generator.now.codec.code.header in let s = symbols_of (width h) shares.old in let added = updated share_layout h self.lanes self.which self.lane self.old self.new s in (shares.new ≡ bytes_of (width h) added) × (result ≡ differ s added) }
     {

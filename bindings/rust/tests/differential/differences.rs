@@ -1,8 +1,9 @@
-//! What each node adds, and the node's side of it: on valid and on damaged input.
+//! What each node adds, the node's side of it, and Update for a run of lanes: on valid and on damaged input.
 use crate::compare::{expected, number, Lent};
 use crate::damage;
 use crate::random::{shapes, Random, Shape};
 use crate::reference;
+use balanced::sys;
 
 /// A change of one symbol in a run of lanes of a block, and the shares of the block.
 struct Change {
@@ -98,6 +99,39 @@ fn add_share(record: &[u8], lanes: u32, difference: &[u8], before: &[u8]) -> u8 
     got
 }
 
+/// Through the safe interface and through the C function, whose count is lent.
+fn update_lanes(c: &Change) -> u8 {
+    const MARK: u32 = 0x5a5a_5a5a;
+    let result = reference::update_lanes(&c.record, c.lanes, c.symbol, c.first, &c.old, &c.new, &c.shares);
+    let (expect, (after, altered)) = expected(result, (c.shares.clone(), MARK));
+    let words = format!("update_lanes {:?} {} {} {}", c.record, c.lanes, c.symbol, c.first);
+    let mut shares = Lent::new(&c.shares);
+    let answer = balanced::update_lanes(&c.record, c.lanes, c.symbol, c.first, &c.old, &c.new, shares.slice());
+    let (got, count) = number(answer);
+    assert_eq!((got, count.unwrap_or(MARK)), (expect, altered), "{words}");
+    assert!(shares.holds(&after), "{words}");
+    let (mut shares, mut count) = (Lent::new(&c.shares), MARK);
+    let got = unsafe {
+        sys::balanced_update_lanes(
+            c.record.as_ptr(),
+            c.record.len(),
+            c.lanes,
+            c.symbol,
+            c.first,
+            c.old.as_ptr(),
+            c.old.len(),
+            c.new.as_ptr(),
+            c.new.len(),
+            shares.slice().as_mut_ptr(),
+            c.shares.len(),
+            &mut count,
+        )
+    };
+    assert_eq!((got, count), (expect, altered), "{words}");
+    assert!(shares.holds(&after), "{words}");
+    got
+}
+
 /// A whole change: what the nodes add gives the shares of the changed message, and n−k nodes get nothing.
 fn changed(random: &mut Random, shape: &Shape, lanes: usize) {
     let c = Change::new(random, shape, lanes, 0, lanes);
@@ -118,6 +152,22 @@ fn changed(random: &mut Random, shape: &Shape, lanes: usize) {
     assert!(shares == c.wanted(shape));
 }
 
+/// A run of lanes, among others that may hold anything.
+fn updated(random: &mut Random, shape: &Shape, lanes: usize) {
+    let first = random.below(lanes + 1);
+    let run = random.below(lanes - first + 1);
+    let mut c = Change::new(random, shape, lanes, first, run);
+    assert_eq!(update_lanes(&c), 0);
+    let mut shares = c.shares.clone();
+    balanced::update_lanes(&c.record, c.lanes, c.symbol, c.first, &c.old, &c.new, &mut shares).unwrap();
+    assert!(shares == c.wanted(shape));
+    let part = shape.bytes(shape.n);
+    let mut others = random.bytes(c.shares.len());
+    others[first * part..(first + run) * part].copy_from_slice(&c.shares[first * part..(first + run) * part]);
+    c.shares = others;
+    assert_eq!(update_lanes(&c), 0);
+}
+
 #[test]
 fn every_shape() {
     let mut random = Random::new(70);
@@ -126,6 +176,7 @@ fn every_shape() {
     for shape in shapes.iter().filter(|shape| shape.n <= 24 || shape.k % 61 == 1) {
         let lanes = 1 + random.below(4);
         changed(&mut random, shape, lanes);
+        updated(&mut random, shape, lanes);
         count += 1;
     }
     println!("changes in many lanes of {count} shapes");
@@ -139,6 +190,7 @@ fn long_blocks() {
         for _ in 0..3 {
             let shape = random.pick(&all);
             changed(&mut random, shape, lanes);
+            updated(&mut random, shape, lanes);
         }
     }
 }
@@ -147,17 +199,24 @@ fn long_blocks() {
 fn damaged() {
     let mut random = Random::new(72);
     let shapes = shapes(16);
-    let mut seen = [[0; 19]; 2];
+    let mut seen = [[0; 19]; 3];
     for _ in 0..25_000 {
         let shape = random.pick(&shapes);
         let lanes = 1 + random.below(5);
+        let first = random.below(lanes);
+        let run = random.below(lanes - first) + 1;
+        // the differences are of whole rows
+        let mut part = Change::new(&mut random, shape, lanes, first, run);
         let mut whole = Change::new(&mut random, shape, lanes, 0, lanes);
         for _ in 0..random.below(3) {
+            part.damage(&mut random, shape);
             whole.damage(&mut random, shape);
         }
-        seen[0][differences(&whole, &whole.shares) as usize] += 1;
-        seen[1][add_share(&whole.record, whole.lanes, &whole.old, &whole.new) as usize] += 1;
+        seen[0][update_lanes(&part) as usize] += 1;
+        seen[1][differences(&whole, &whole.shares) as usize] += 1;
+        seen[2][add_share(&whole.record, whole.lanes, &whole.old, &whole.new) as usize] += 1;
     }
-    damage::judge("differences", &seen[0], &[0, 1, 2, 3, 4, 5, 7, 8, 9, 11]);
-    damage::judge("add_share", &seen[1], &[0, 1, 2, 3, 4, 5, 7, 8, 11]);
+    damage::judge("update_lanes", &seen[0], &[0, 1, 2, 3, 4, 5, 7, 8, 9, 11, 12, 13]);
+    damage::judge("differences", &seen[1], &[0, 1, 2, 3, 4, 5, 7, 8, 9, 11]);
+    damage::judge("add_share", &seen[2], &[0, 1, 2, 3, 4, 5, 7, 8, 11]);
 }

@@ -12,7 +12,7 @@ mod roster;
 
 pub use carry::{carried_len, carry_change, carry_in, carry_out, mask_of};
 pub use code::{bytes_of, width, Code};
-pub use differences::{add_share, differences};
+pub use differences::{add_share, differences, update_lanes};
 pub use field::{is_prime, Field};
 pub use lanes::{added, find_update, mends};
 pub use roster::{Event, History};
