@@ -1,6 +1,6 @@
-/* The time of the calls in this build, beside an older build, ISA-L, Jerasure and libfec, where they are there. The methods run in turn, round
-   after round, the best time of each counts, and all that is written is compared byte for byte with products made one by one.
-   bench ROUNDS THIS.so [OLDER.so] */
+/* The time of the calls in each build of the library, beside ISA-L, Jerasure, klauspost/reedsolomon and libfec, where they are there. The methods
+   run in turn, round after round, the best time of each counts, and all that is written is compared byte for byte with products made one by one.
+   bench ROUNDS NAME BUILD.so [NAME BUILD.so].. */
 #include "bench.h"
 #include <stdio.h>
 #include <stdlib.h>
@@ -11,8 +11,8 @@ static const struct { uint8_t record[5]; int length, n, k; } codes[] = {
 };
 static const int all_lanes[] = {1, 16, 64, 256, 1024, 4096};
 static const char *const call_names[CALLS] = {"encode", "update", "recover", "rebuild", "belongs", "correct", "correct_wrong", "plan"};
-static struct method *const methods[] = {&this_build, &older_build, &isal, &isal_turned, &jerasure, &jerasure_turned, &isal_kept, &jerasure_kept, &libfec};
-enum { METHODS = sizeof methods / sizeof *methods };
+static struct method *const peers[] = {&isal, &isal_turned, &jerasure, &jerasure_turned, &isal_kept, &jerasure_kept, &klauspost, &libfec};
+enum { PEERS = sizeof peers / sizeof *peers, METHODS = MOST_BUILDS + PEERS };
 
 struct layout planned, systematic;
 const uint8_t *record;
@@ -122,6 +122,11 @@ static void reverse_lanes(void) {
         }
 }
 
+/* Builds of the library stand first, the peers behind them. */
+static struct method *method(int m) { return m < build_count ? &builds[m] : peers[m - build_count]; }
+static int methods(void) { return build_count + PEERS; }
+static int is_ours(const struct method *m) { return builds <= m && m < builds + build_count; }
+
 /* The block that Correct takes, as the method has it. */
 static void fill_lanes(const struct method *m) {
     memcpy(work, planned.lanes, (size_t)n * lanes);
@@ -144,7 +149,7 @@ void spoil(void) {
 static int is_right(int call, const struct method *m, int runs) {
     const struct layout *y = m->layout;
     int front = y == &systematic ? k : 0, recovered = y == &systematic ? lost : k;
-    if (call == ENCODE && m->by_lane) return !memcmp(m == &this_build || m == &older_build ? out : turned, y->lanes, (size_t)n * lanes);
+    if (call == ENCODE && m->by_lane) return !memcmp(is_ours(m) ? out : turned, y->lanes, (size_t)n * lanes);
     if (call == ENCODE) return !memcmp(out, y->rows[front], (size_t)(n - front) * lanes);
     if (call == RECOVER) return !memcmp(out, message, (size_t)recovered * lanes);
     if (call == REBUILD) return !memcmp(out, y->rows[0], lanes);
@@ -163,18 +168,28 @@ static int is_right(int call, const struct method *m, int runs) {
     return 1;
 }
 
-/* The time of so many calls, after each of which Update's symbols change places. */
-static double run(int call, const struct method *m, int runs) {
-    memset(out, 0xA5, (size_t)n * lanes);
-    belongs = 0;
-    fill_states(m->layout, m->by_lane);
-    if (call == CORRECT || call == CORRECT_WRONG) fill_lanes(m);
-    double start = used();
+/* So many calls, after each of which Update's symbols change places. */
+static void make_calls(int call, const struct method *m, int runs) {
+    if (m->repeat[call]) {
+        m->repeat[call](runs);
+        return;
+    }
     for (int i = 0; i < runs; i++) {
         m->run[call]();
         uint8_t turned = from;
         from = to, to = turned;
     }
+}
+
+/* The time of so many calls. */
+static double run(int call, const struct method *m, int runs) {
+    memset(out, 0xA5, (size_t)n * lanes);
+    belongs = 0;
+    fill_states(m->layout, m->by_lane);
+    if (call == CORRECT || call == CORRECT_WRONG) fill_lanes(m);
+    if (is_ours(m)) take_build(m);
+    double start = used();
+    make_calls(call, m, runs);
     double time = used() - start;
     if (is_right(call, m, runs)) return time;
     fprintf(stderr, "bench: n = %d, k = %d, %d lanes, %s: %s differs\n", n, k, lanes, call_names[call], m->name);
@@ -190,32 +205,43 @@ static double timed(int call, const struct method *m, int *runs) {
 
 /* The peers have no prime fields, and their rows are whole words; libfec has our code for 255 nodes alone. */
 static int alone(void) { return prime || lanes < 16; }
-static int left_out(int call, const struct method *m) { return !m->run[call] || (alone() && !m->primes) || (reversed(m) && n != 255); }
+static int left_out(int call, const struct method *m) {
+    return (!m->run[call] && !m->repeat[call]) || (alone() && !m->primes) || (reversed(m) && n != 255);
+}
 
-/* One line: our time, the bytes of the message a second, and our time over that of each other method; then each ratio on a line of its own,
-   to be read by programs: ratio CALL N K LANES METHOD VALUE. */
+/* The ratio of two times, where there are both. */
+static void print_ratio(double time, double other) {
+    if (time && other) printf(" %15.3f", time / other);
+    else printf(" %15s", "-");
+}
+
+/* A line for a build: its time in microseconds, the millions of bytes of the message a second, and its time over that of each peer, and for
+   Correct over that of Belongs. */
+static void print_row(int call, int build, const double *best, const double *belongs_times) {
+    double time = best[build];
+    printf("%5d %5d %6d  %-13s  %-10s %10.2f", n, k, lanes, call_names[call], builds[build].name, time * 1e6);
+    if (call == UPDATE || call == PLAN) printf(" %8s", "-");
+    else printf(" %8.0f", (double)k * lanes / time / 1e6);
+    for (int m = build_count; m < methods(); m++) print_ratio(time, best[m]);
+    print_ratio(time, call == CORRECT || call == CORRECT_WRONG ? belongs_times[build] : 0);
+    printf("\n");
+}
+
+/* The best time of each method; a line for each build that has the call. */
 static void measure(int call, int rounds) {
+    static double belongs_times[MOST_BUILDS];
     double best[METHODS] = {0};
     int runs[METHODS];
-    for (int m = 0; m < METHODS; m++) runs[m] = 1;
+    for (int m = 0; m < methods(); m++) runs[m] = 1;
     for (int round = 0; round < rounds; round++)
-        for (int m = 0; m < METHODS; m++) {
-            if (left_out(call, methods[m])) continue;
-            double time = timed(call, methods[m], &runs[m]);
+        for (int m = 0; m < methods(); m++) {
+            if (left_out(call, method(m))) continue;
+            double time = timed(call, method(m), &runs[m]);
             if (!best[m] || time < best[m]) best[m] = time;
         }
-    printf("%5d %5d %6d  %-13s %10.2f us", n, k, lanes, call_names[call], best[0] * 1e6);
-    if (call == UPDATE || call == PLAN) printf(" %13s", "");
-    else printf(" %8.0f MB/s", (double)k * lanes / best[0] / 1e6);
-    for (int m = 1; m < METHODS; m++)
-        if (best[m]) printf(" %12.2f", best[0] / best[m]);
-        else printf(" %12s", "-");
-    printf("\n");
-    for (int m = 1; m < METHODS; m++)
-        if (best[m]) printf("ratio %s %d %d %d %s %.3f\n", call_names[call], n, k, lanes, methods[m]->label, best[0] / best[m]);
-    static double belongs_time;
-    if (call == BELONGS) belongs_time = best[0];
-    if (call == CORRECT || call == CORRECT_WRONG) printf("ratio %s %d %d %d belongs %.3f\n", call_names[call], n, k, lanes, best[0] / belongs_time);
+    if (call == BELONGS) memcpy(belongs_times, best, sizeof belongs_times);
+    for (int build = 0; build < build_count; build++)
+        if (best[build]) print_row(call, build, best, belongs_times);
     fflush(stdout);
 }
 
@@ -225,21 +251,25 @@ static uint8_t *room(void) {
     return p;
 }
 
+static void print_head(void) {
+    printf("%5s %5s %6s  %-13s  %-10s %10s %8s", "n", "k", "lanes", "call", "build", "us", "MB/s");
+    for (int m = 0; m < PEERS; m++) printf(" %15s", peers[m]->name);
+    printf(" %15s\n", "belongs");
+}
+
 int main(int argc, char **argv) {
-    if (argc < 3) fail("bench ROUNDS THIS.so [OLDER.so]");
-    load_builds(argv[2], argc > 3 ? argv[3] : NULL);
+    if (argc < 4 || argc % 2) fail("bench ROUNDS NAME BUILD.so [NAME BUILD.so]..");
+    for (int i = 2; i < argc; i += 2) load_build(argv[i], argv[i + 1]);
     message = room(), out = room(), work = room(), planned.shares = room(), systematic.shares = room();
     planned.lanes = room(), systematic.lanes = room(), listed_lanes = room(), turned = room();
-    printf("%5s %5s %6s  %-13s %13s %13s", "n", "k", "lanes", "call", "time", "message");
-    for (int m = 1; m < METHODS; m++) printf(" %12s", methods[m]->name);
-    printf("\n");
+    print_head();
     for (size_t c = 0; c < sizeof codes / sizeof *codes; c++) {
         read_code(c);
         for (size_t l = 0; l < sizeof all_lanes / sizeof *all_lanes; l++) {
             lanes = all_lanes[l];
             fill_buffers();
-            for (int m = 0; m < METHODS; m++)
-                if (methods[m]->keep && !alone()) methods[m]->keep();
+            for (int m = 0; m < methods(); m++)
+                if (method(m)->keep && !alone()) method(m)->keep();
             for (int call = 0; call < CALLS; call++)
                 if (call != PLAN || l == 0) measure(call, atoi(argv[1]));
         }

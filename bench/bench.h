@@ -34,22 +34,30 @@ extern uint8_t *listed_lanes, *turned, *turned_rows[MAX];
 extern int symbol, lane;
 extern uint8_t from, to;
 
-/* A method: its name, a word for it, whether it does prime fields, whether its shares stand lane after lane, its layout, what it keeps from call to
-   call (not timed), and its calls. Correct is timed on words of the code, and as CORRECT_WRONG on a block that is spoiled before each call. */
+/* A method: its name, whether it does prime fields, whether its shares stand lane after lane, its layout, what it keeps from call to call (not
+   timed), and its calls. Correct is timed on words of the code, and as CORRECT_WRONG on a block that is spoiled before each call. A method that
+   is called from C at some cost makes many calls by itself. */
 struct method {
-    const char *name, *label;
+    const char *name;
     int primes, by_lane;
     struct layout *layout;
     void (*keep)(void);
     void (*run[CALLS])(void);
+    void (*repeat[CALLS])(int runs);
 };
 
-extern struct method this_build, older_build, isal, isal_turned, isal_kept, jerasure, jerasure_turned, jerasure_kept, libfec;
+extern struct method isal, isal_turned, isal_kept, jerasure, jerasure_turned, jerasure_kept, klauspost, libfec;
 
-/* Loads this build of the library and an older one, if there is one: shared objects. */
-void load_builds(const char *this_path, const char *older_path);
+/* The builds of the library, shared objects, in the order of their loading. */
+enum { MOST_BUILDS = 4 };
+extern struct method builds[MOST_BUILDS];
+extern int build_count;
+void load_build(const char *name, const char *path);
 
-/* The generator of the plan, by this build. */
+/* The build whose calls are made from here on. */
+void take_build(const struct method *build);
+
+/* The generator of the plan, by the first build. */
 void read_plan(void);
 
 void fail(const char *what);

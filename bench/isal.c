@@ -86,10 +86,10 @@ static void kept_test(void) {
     belongs = !memcmp(out, systematic.rows[k], (size_t)(n - k) * lanes);
 }
 
-struct method isal = {"ISA-L", "isal", 0, 0, &planned, NULL, {encode, update, recover, rebuild, test}};
-struct method isal_turned = {"ISA-L turned", "isal_turned", 0, 1, &planned, NULL, {turned_encode, NULL, turned_recover, turned_rebuild, turned_test}};
-struct method isal_kept = {"ISA-L kept", "isal_kept", 0, 0, &systematic, keep, {kept_encode, kept_update, kept_recover, kept_rebuild, kept_test}};
+struct method isal = {"isal", 0, 0, &planned, NULL, {encode, update, recover, rebuild, test}, {NULL}};
+struct method isal_turned = {"isal_turned", 0, 1, &planned, NULL, {turned_encode, NULL, turned_recover, turned_rebuild, turned_test}, {NULL}};
+struct method isal_kept = {"isal_kept", 0, 0, &systematic, keep, {kept_encode, kept_update, kept_recover, kept_rebuild, kept_test}, {NULL}};
 #else
-struct method isal = {"ISA-L", "isal", 0, 0, &planned, NULL, {NULL}}, isal_turned = {"ISA-L turned", "isal_turned", 0, 1, &planned, NULL, {NULL}};
-struct method isal_kept = {"ISA-L kept", "isal_kept", 0, 0, &systematic, NULL, {NULL}};
+struct method isal = {"isal", 0, 0, &planned, NULL, {NULL}, {NULL}}, isal_turned = {"isal_turned", 0, 1, &planned, NULL, {NULL}, {NULL}};
+struct method isal_kept = {"isal_kept", 0, 0, &systematic, NULL, {NULL}, {NULL}};
 #endif

@@ -87,10 +87,10 @@ static void kept_test(void) {
     belongs = !memcmp(out, systematic.rows[k], (size_t)(n - k) * lanes);
 }
 
-struct method jerasure = {"Jerasure", "jerasure", 0, 0, &planned, NULL, {encode, update, recover, rebuild, test}};
-struct method jerasure_turned = {"Jer. turned", "jerasure_turned", 0, 1, &planned, NULL, {turned_encode, NULL, turned_recover, turned_rebuild, turned_test}};
-struct method jerasure_kept = {"Jer. kept", "jerasure_kept", 0, 0, &systematic, keep, {kept_encode, kept_update, kept_recover, kept_rebuild, kept_test}};
+struct method jerasure = {"jerasure", 0, 0, &planned, NULL, {encode, update, recover, rebuild, test}, {NULL}};
+struct method jerasure_turned = {"jerasure_turned", 0, 1, &planned, NULL, {turned_encode, NULL, turned_recover, turned_rebuild, turned_test}, {NULL}};
+struct method jerasure_kept = {"jerasure_kept", 0, 0, &systematic, keep, {kept_encode, kept_update, kept_recover, kept_rebuild, kept_test}, {NULL}};
 #else
-struct method jerasure = {"Jerasure", "jerasure", 0, 0, &planned, NULL, {NULL}}, jerasure_turned = {"Jer. turned", "jerasure_turned", 0, 1, &planned, NULL, {NULL}};
-struct method jerasure_kept = {"Jer. kept", "jerasure_kept", 0, 0, &systematic, NULL, {NULL}};
+struct method jerasure = {"jerasure", 0, 0, &planned, NULL, {NULL}, {NULL}}, jerasure_turned = {"jerasure_turned", 0, 1, &planned, NULL, {NULL}, {NULL}};
+struct method jerasure_kept = {"jerasure_kept", 0, 0, &systematic, NULL, {NULL}, {NULL}};
 #endif

@@ -23,7 +23,7 @@ static void correct_wrong(void) {
     correct();
 }
 
-struct method libfec = {"libfec", "libfec", 0, 1, &planned, keep, {[CORRECT] = correct, [CORRECT_WRONG] = correct_wrong}};
+struct method libfec = {"libfec", 0, 1, &planned, keep, {[CORRECT] = correct, [CORRECT_WRONG] = correct_wrong}, {NULL}};
 #else
-struct method libfec = {"libfec", "libfec", 0, 1, &planned, NULL, {NULL}};
+struct method libfec = {"libfec", 0, 1, &planned, NULL, {NULL}, {NULL}};
 #endif

@@ -51,7 +51,7 @@ class Carrying(CallCase):
             for count in random.sample(COUNTS, 6):
                 data = self.data(random, record, count)
                 number, symbols = carry.carry_in(record, data, carry.carried_len(record, count)[1] or 0)
-                symbols = symbols or bytes(4)
+                symbols = bytes(4) if number else symbols
                 if symbols and random.random() < 0.2:
                     symbols = b"\xff\xff" + symbols[2:]
                 at = random.randrange(count + 2)

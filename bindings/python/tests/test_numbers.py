@@ -49,6 +49,7 @@ REFUSED = [
     (PLAN.to_lanes, (0, lane()), 7), (PLAN.to_lanes, (1, bytes(5)), 8), (PLAN.to_lanes, (1, lane(), bytearray(5)), 8),
     (PLAN.to_nodes, (4097, lane()), 7), (PLAN.to_nodes, (1, bytes(7)), 8), (PLAN.to_nodes, (1, lane(), bytearray(7)), 8),
     (Plan([1, 7, 3, 6, 6]).weights, (), 16), (PLAN.repair_plan, (), 17), (PLAN.carried_len, (2,), 18),
+    (Plan([2, 11, 15, 10]).carry_change, (bytearray(4), 4, 4, b"x"), 9), (Plan([2, 11, 15, 10]).carry_change, (bytearray(4), 4, 2**64, b""), 9),
     (Plan, ([],), 1), (Plan, ([4, 7, 3, 6, 3],), 1), (Plan, ([1, 7, 3, 6],), 2), (Plan, ([1, 9, 3, 6, 3],), 3),
     (Plan, ([1, 7, 3, 6, 7],), 4), (Plan, ([1, 7, 2, 6, 3],), 5), (Plan, (b"\2\2\xff\0",), 4),
     (Roster.start, ([1, 7, 2, 6, 3],), 5), (Roster, (PLAN, bytes(255)), 8),

@@ -1,6 +1,7 @@
 -- Powers of the root, values of products and of Lagrange's basis polynomials, coefficients of polynomials.
 pub mod Points
 pub mod Values
+pub mod Stretches
 pub mod Basis
 pub mod Coefficients
 -- They are those of the algebra.

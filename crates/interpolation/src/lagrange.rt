@@ -1,8 +1,8 @@
 // Lagrange's basis polynomials of listed points, by their values.
-ghost use Rattle.std.specs.Prelude.{◌≡◌, ◌-◌, ◌<◌, length, drop};
+ghost use Rattle.std.specs.Prelude.{◌≡◌, ◌-◌, ◌<◌, length, get_or, drop};
 ghost use Rattle.lists.specs.Padded.{padded};
 ghost use Rattle.lists.specs.Rows.{from};
-ghost use Rattle.field.specs.Fields.{size_of};
+ghost use Rattle.field.specs.Fields.{size_of, sub, mul};
 ghost use Rattle.field.specs.Kinds.{modulus};
 ghost use Rattle.interpolation.specs.Inner.Points.{SymbolList};
 ghost use Rattle.interpolation.specs.Inner.Lagrange.{product_at, others_at, scale_at, basis_values, scales_of};
@@ -19,8 +19,8 @@ pub struct Points<'f, 'p> {
 }
 
 impl Points<'_, '_> {
-    // The product of (z − x) over the points x.
-    fn product_at(self, z: u32) -> u32
+    // The product of (z − x) over the points x, one after the other.
+    fn product_in_turn(self, z: u32) -> u32
         requires { z < size_of (modulus self.field.field) }
         ensures is { result ≡ product_at (modulus self.entry.field.field) self.entry.points.now z }
         ensures symbol { result < size_of (modulus self.entry.field.field) }
@@ -31,6 +31,44 @@ impl Points<'_, '_> {
             product = self.field.mul(factor, product);
         }
         product
+    }
+
+    // (z − x) times a product, x being point number i.
+    #[tactic(auto, using(lists::proofs::Numbers::below_at))]
+    fn with_factor(self, i: usize, z: u32, product: u32) -> u32
+        requires { (i < length self.points.now) × (z < size_of (modulus self.field.field)) × (product < size_of (modulus self.field.field)) }
+        ensures is { let p = modulus self.entry.field.field in result ≡ mul p (sub p z (get_or self.entry.points.now i 0)) product }
+        ensures symbol { result < size_of (modulus self.entry.field.field) }
+    {
+        let factor = self.field.sub(z, u32::from(self.points[i]));
+        self.field.mul(factor, product)
+    }
+
+    // The product of (z − x) over the points x. Four parts of the list are gone through side by side: one product that waits for the one
+    // before it takes three times as long.
+    #[tactic(auto, using(crate::proofs::Points::symbols_drop, lists::proofs::Rows::part_rest))]
+    fn product_at(self, z: u32) -> u32
+        requires { z < size_of (modulus self.field.field) }
+        ensures is { result ≡ product_at (modulus self.entry.field.field) self.entry.points.now z }
+        ensures symbol { result < size_of (modulus self.entry.field.field) }
+    {
+        let field = self.field;
+        let size = self.points.len() / 4;
+        let others = Points {
+            field,
+            points: &self.points[4 * size..],
+        };
+        let mut first = Field::ONE;
+        let mut second = Field::ONE;
+        let mut third = Field::ONE;
+        let mut last = others.product_in_turn(z);
+        for i in (0..size).rev() {
+            first = self.with_factor(i, z, first);
+            second = self.with_factor(size + i, z, second);
+            third = self.with_factor(2 * size + i, z, third);
+            last = self.with_factor(3 * size + i, z, last);
+        }
+        field.mul(field.mul(first, second), field.mul(third, last))
     }
 
     // The product over the points but number i: over those before it, and over those after it.

@@ -1,21 +1,36 @@
 // The rule of Lemma 2.
 ghost use Rattle.std.specs.Prelude.{◌≡◌, ◌+◌, ◌≤◌, ◌<◌};
 ghost use Rattle.lists.specs.Padded.{padded};
-ghost use Rattle.generator.specs.Shifts.{shifts_from, even_shifts};
+ghost use Rattle.generator.specs.Shifts.{next_place, shifts_from, even_shifts};
 
 use crate::gcd;
 use generator::Dimensions;
-use node_lists::nodes_where;
 
-// The numbers below n on rounds that take and then skip so many, rising, and zeros after them.
+// The place after this one on a round of so many.
+fn next_place(round: u32, place: u32) -> u32
+    requires { place < round }
+    ensures { (result ≡ next_place round place) × (result < round) }
+{
+    let next = place + 1;
+    if next == round { 0 } else { next }
+}
+
+// The numbers below n on rounds that take and then skip so many, rising, and zeros after them. `place` is the place in the round: by
+// `nodes_where` with a remainder for each number a plan takes up to three times as long.
 fn rounds(n: u8, taken: u32, skipped: u32) -> [u8; 255]
     requires { (0 < taken + skipped) × (taken + skipped ≤ 255) }
     ensures { result ≡ padded 255 (shifts_from n 0 taken skipped 0) }
 {
-    let chosen = nodes_where(n, |i| u32::from(i) % (taken + skipped) < taken);
-    let list = chosen.as_slice();
     let mut out = [0u8; 255];
-    out[..list.len()].copy_from_slice(list);
+    let mut count: usize = 0;
+    let mut place: u32 = 0;
+    for i in 0..n {
+        if place < taken {
+            out[count] = i;
+            count += 1;
+        }
+        place = next_place(taken + skipped, place);
+    }
     out
 }
 

@@ -61,13 +61,19 @@ pub fn shifts_of(dimensions: Dimensions) -> [u8; 255]
     laid::laid_shifts(dimensions)
 }
 
-// The k first nodes in the order of the rows, each the negative of its shift, and zeros after them, for the negative of 0 is 0.
-fn firsts_of(dimensions: Dimensions, shifts: [u8; 255]) -> [u8; 255]
-    requires { shifts ≡ padded 255 (shifts_of dimensions.n dimensions.k) }
+// The k first nodes in the order of the rows, each the negative of its shift, and zeros after them.
+fn firsts_of(dimensions: Dimensions, shifts: &[u8; 255]) -> [u8; 255]
+    requires { shifts.now ≡ padded 255 (shifts_of dimensions.n dimensions.k) }
     ensures { result ≡ padded 255 (firsts_of dimensions.n dimensions.k) }
 {
-    let n = dimensions.n as usize;
-    shifts.map(|shift| negative(n, shift as usize) as u8)
+    let Dimensions { n, k, .. } = dimensions;
+    let mut out = [0u8; 255];
+    for r in 0..k {
+        let shift = shifts[r as usize] as usize;
+        let first = negative(n as usize, shift);
+        out[r as usize] = first as u8;
+    }
+    out
 }
 
 // The shifts and the first nodes of the k rows, and zeros after them.
@@ -75,6 +81,6 @@ pub fn place_rows(dimensions: Dimensions) -> Rows
     ensures { (result.shifts ≡ padded 255 (shifts_of dimensions.n dimensions.k)) × (result.firsts ≡ padded 255 (firsts_of dimensions.n dimensions.k)) }
 {
     let shifts = shifts_of(dimensions);
-    let firsts = firsts_of(dimensions, shifts);
+    let firsts = firsts_of(dimensions, &shifts);
     Rows { shifts, firsts }
 }

@@ -1,26 +1,27 @@
--- Arrays that are filled to their end, and the exponents T(x).
+-- Lists by index, and the exponents T(x).
 use mathlib.Core.Path.{◌≡◌, sym, ap, ◌∙◌}
-use mathlib.Core.List.{List, [], ◌++◌, append-nil}
+use mathlib.Core.List.{List, []}
 use mathlib.Core.Logic.{◌⊎◌, inl, inr}
 use Prim.Native.Nat.{ℕ, ◌+◌, ◌%◌, ◌≤◌, ◌<◌}
-use native.Mathlib.Nat.{zero-add, sub_self, mod-add-mod, add-mod-mod}
+use native.Mathlib.Nat.{zero-add, mod-add-mod, add-mod-mod}
 use native.Mathlib.Numerals.{add-one}
 use native.Mathlib.Omega.{arith}
 use lib.ListN.{length, get_or, length-drop}
 use Rattle.lists.specs.Rows.{from}
-use Rattle.lists.specs.Padded.{zeros, padded}
-use Rattle.lists.proofs.Fill.{Filled, filled_end}
 use Rattle.lists.proofs.Paired.{Paired}
 use Rattle.lists.proofs.Rows.{length_from, get_or_from}
 use Rattle.spectrum.specs.Inner.Spectrum.{triangle}
 
-pub all_filled : {n : ℕ} {f : ℕ → ℕ} {i : ℕ} {now : List ℕ} → Filled n n f i now → n ≤ i → now ≡ from f 0 n
-unfolding padded zeros from
-all_filled {n} {f} s h = let whole = filled_end s h in whole ∙ rw (length_from f 0 n) (ap (λ (z : List ℕ). from f 0 n ++ z) (ap zeros (sub_self n)) ∙ append-nil (from f 0 n))
-
 -- value i of a list by index
 pub value_at : (f : ℕ → ℕ) (m i : ℕ) → i < m → get_or (from f 0 m) i 0 ≡ f i
 value_at f m i h = rw zero-add at (get_or_from f 0 m i 0 h)
+
+-- and of a list that is one
+pub listed_at : (f : ℕ → ℕ) (xs : List ℕ) (i : ℕ) → xs ≡ from f 0 (length xs) → i < length xs → get_or xs i 0 ≡ f i
+listed_at f xs i is h = ap (λ (l : List ℕ). get_or l i 0) is ∙ value_at f (length xs) i h
+
+pub listed_whole : (f : ℕ → ℕ) (xs : List ℕ) (m : ℕ) → xs ≡ from f 0 m → xs ≡ from f 0 (length xs)
+listed_whole f xs m is = is ∙ ap (from f 0) (sym (ap length is ∙ length_from f 0 m))
 
 -- T(x + 1) is T(x) and x more, modulo n
 pub triangle_next : (n x : ℕ) → (triangle x % n + x % n) % n ≡ triangle (x + 1) % n

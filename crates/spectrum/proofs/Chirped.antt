@@ -87,7 +87,7 @@ module _ (F : Field) where
         ∙ ap (λ y. y ⊗ sum F m (λ j. w j ⊗ pow F a (j * t))) (over_chirp t)
         ∙ one-mul F (sum F m (λ j. w j ⊗ pow F a (j * t)))
 
-module _ (h : Header) (s : Sound h) (ws : List ℕ) (long : length ws ≡ h.n) (below : all_below (size h) ws ≡ true) (few : h.n ≤ 255) where
+module _ (h : Header) (s : Sound h) (ws : List ℕ) (long : length ws ≡ h.n) (below : all_below (size h) ws ≡ true) (size_of_row : ℕ) (wide : h.n + h.n ≤ size_of_row) where
   abbrev F : Field
   F = field_for h s
 
@@ -107,15 +107,15 @@ module _ (h : Header) (s : Sound h) (ws : List ℕ) (long : length ws ≡ h.n) (
   unchirped_is j = ap₂ (mul (modulus_of h)) (symbol_is j) (sym (number_pow (modulus_of h) s.field a (negative h.n (triangle j % h.n))))
 
   -- the sum from place t on
-  window_is : (t : ℕ) → t < h.n → dot (modulus_of h) (unchirped h ws) (drop t (from (chirp_at h) 0 510)) ≡ (sum F h.n (λ j. F.mul (F.mul (symbol j) (over F a h.n (root_order h s) j)) (chirp F a h.n (root_order h s) (t + j)))).0
+  window_is : (t : ℕ) → t < h.n → dot (modulus_of h) (unchirped h ws) (drop t (from (chirp_at h) 0 size_of_row)) ≡ (sum F h.n (λ j. F.mul (F.mul (symbol j) (over F a h.n (root_order h s) j)) (chirp F a h.n (root_order h s) (t + j)))).0
   unfolding unchirped chirp_at
   window_is t inside =
       let o = root_order h s in
       let size_is : length (unchirped h ws) ≡ h.n = length_from (unchirped_at h ws) 0 (length ws) ∙ long in
-      dot_is (modulus_of h) s.field (unchirped h ws) (drop t (from (chirp_at h) 0 510)) (λ j. F.mul (symbol j) (over F a h.n o j)) (λ j. chirp F a h.n o (t + j))
-      (omega (arith, size_is, length-drop t (from (chirp_at h) 0 510), length_from (chirp_at h) 0 510))
+      dot_is (modulus_of h) s.field (unchirped h ws) (drop t (from (chirp_at h) 0 size_of_row)) (λ j. F.mul (symbol j) (over F a h.n o j)) (λ j. chirp F a h.n o (t + j))
+      (omega (arith, size_is, length-drop t (from (chirp_at h) 0 size_of_row), length_from (chirp_at h) 0 size_of_row))
       (λ j l. value_at (unchirped_at h ws) (length ws) j (omega arith) ∙ unchirped_is j)
-      (λ j l. get_or-drop t (from (chirp_at h) 0 510) j 0 ∙ value_at (chirp_at h) 510 (t + j) (omega arith) ∙ sym (number_pow (modulus_of h) s.field a (triangle (t + j) % h.n)))
+      (λ j l. get_or-drop t (from (chirp_at h) 0 size_of_row) j 0 ∙ value_at (chirp_at h) size_of_row (t + j) (omega arith) ∙ sym (number_pow (modulus_of h) s.field a (triangle (t + j) % h.n)))
       ∙ ap (λ (m : ℕ). (sum F m (λ j. F.mul (F.mul (symbol j) (over F a h.n o j)) (chirp F a h.n o (t + j)))).0) size_is
 
   -- check sum e
@@ -130,18 +130,18 @@ module _ (h : Header) (s : Sound h) (ws : List ℕ) (long : length ws ≡ h.n) (
       (λ j l. ap (λ (i : ℕ). F.mul (symbol j) (pow F a (i * e))) (value_at (λ x. x) (length (lifted h s ws)) j (omega (arith, length_lifted h s ws)))))
 
   -- the spectrum
-  pub spectrum_is : unchirped h (window_sums (modulus_of h) (unchirped h ws) (from (chirp_at h) 0 510) h.n) ≡ spectrum_of h ws
+  pub spectrum_is : unchirped h (window_sums (modulus_of h) (unchirped h ws) (from (chirp_at h) 0 size_of_row) h.n) ≡ spectrum_of h ws
   unfolding spectrum_of unchirped window_sums unchirped_at
   spectrum_is =
       let o = root_order h s in
       let p = modulus_of h in
-      let sums = window_sums p (unchirped h ws) (from (chirp_at h) 0 510) h.n in
-      ap (from (unchirped_at h sums) 0) (length_from (λ t. dot p (unchirped h ws) (drop t (from (chirp_at h) 0 510))) 0 h.n)
+      let sums = window_sums p (unchirped h ws) (from (chirp_at h) 0 size_of_row) h.n in
+      ap (from (unchirped_at h sums) 0) (length_from (λ t. dot p (unchirped h ws) (drop t (from (chirp_at h) 0 size_of_row))) 0 h.n)
       ∙ from_ext (unchirped_at h sums) (λ e. check_from h e 0 ws) 0 h.n
       (λ t low high.
       let inside : t < h.n = omega arith in
       ap₂ (mul p)
-      (value_at (λ t. dot p (unchirped h ws) (drop t (from (chirp_at h) 0 510))) h.n t inside ∙ window_is t inside)
+      (value_at (λ t. dot p (unchirped h ws) (drop t (from (chirp_at h) 0 size_of_row))) h.n t inside ∙ window_is t inside)
       (sym (number_pow p s.field a (negative h.n (triangle t % h.n))))
       ∙ ap (λ (y : Symbol (size h)). y.0) (chirped F a h.n o h.n symbol t)
       ∙ sym (check_is t))

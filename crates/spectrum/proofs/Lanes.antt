@@ -25,11 +25,11 @@ unfolding unchirped
 length_unchirped h ws = length_from (unchirped_at h ws) 0 (length ws)
 
 module _ (h : Header) (s : Sound h) where
-  pub chirps_below : all_below (size h) (from (chirp_at h) 0 510) ≡ true
+  pub chirps_below : (m : ℕ) → all_below (size h) (from (chirp_at h) 0 m) ≡ true
   unfolding chirp_at
-  chirps_below =
-      at_below (size h) (from (chirp_at h) 0 510)
-      (λ x l. rw (value_at (chirp_at h) 510 x (omega (arith, length_from (chirp_at h) 0 510))) (power_below (modulus_of h) s.field (triangle x % h.n) s.root_below))
+  chirps_below m =
+      at_below (size h) (from (chirp_at h) 0 m)
+      (λ x l. rw (value_at (chirp_at h) m x (omega (arith, length_from (chirp_at h) 0 m))) (power_below (modulus_of h) s.field (triangle x % h.n) s.root_below))
 
   pub unchirped_below : (ws : List ℕ) → all_below (size h) ws ≡ true → all_below (size h) (unchirped h ws) ≡ true
   unfolding unchirped unchirped_at

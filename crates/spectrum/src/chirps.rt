@@ -10,12 +10,11 @@ use crate::Transform;
 use check_sums::lane::stepped;
 use shifts::negative;
 
-// T(x) modulo n. `n: u8` would say n ≤ 255, and be cast at both uses, which take it beside places; 2 ≤ n would stay.
-pub fn exponents(n: usize) -> [u8; 510]
+// T(x) modulo n, at each place of the list. `n: u8` would say n ≤ 255, and be cast at both uses, which take it beside places; 2 ≤ n would stay.
+pub fn fill_exponents(n: usize, out: &mut [u8])
     requires { (2 ≤ n) × (n ≤ 255) }
-    ensures { result ≡ from (λ x. triangle x % n) 0 510 }
+    ensures { out.new ≡ from (λ x. triangle x % n) 0 (length out.old) }
 {
-    let mut out = [0u8; 510];
     let mut sum: usize = 0;
     let mut step: usize = 0;
     for exponent in out.iter_mut() {
@@ -23,22 +22,23 @@ pub fn exponents(n: usize) -> [u8; 510]
         sum = stepped(sum, step, n);
         step = stepped(step, 1, n);
     }
-    out
 }
 
 impl Transform<'_, '_> {
-    // root^T(x).
-    pub fn chirps(self, exponents: &[u8; 510]) -> [u16; 510]
-        requires { exponents.now ≡ from (λ x. triangle x % self.powers.codec.code.header.n) 0 510 }
-        ensures { result ≡ from (chirp_at self.entry.powers.codec.code.header) 0 510 }
+    // root^T(x), at each place of the row. By `map` over arrays for the longest code it was a third of Update at n = 15.
+    pub fn fill_chirps(self, exponents: &[u8], row: &mut [u16])
+        requires { (exponents.now ≡ from (λ x. triangle x % self.powers.codec.code.header.n) 0 (length exponents.now)) × (length row.old ≡ length exponents.now) }
+        ensures { row.new ≡ from (chirp_at self.entry.powers.codec.code.header) 0 (length row.old) }
     {
         let powers = self.powers.list;
-        exponents.map(|e| powers[usize::from(e)])
+        for (x, &exponent) in exponents.iter().enumerate() {
+            row[x] = powers[exponent as usize];
+        }
     }
 
     // Each symbol over root^T(j), and zeros after them.
-    pub fn unchirp(self, exponents: &[u8; 510], symbols: &[u16]) -> [u16; 255]
-        requires { (exponents.now ≡ from (λ x. triangle x % self.powers.codec.code.header.n) 0 510) × (length symbols.now ≤ 255) × (all_below (size self.powers.codec.code.header) symbols.now ≡ true) }
+    pub fn unchirp(self, exponents: &[u8], symbols: &[u16]) -> [u16; 255]
+        requires { (exponents.now ≡ from (λ x. triangle x % self.powers.codec.code.header.n) 0 (length exponents.now)) × (length symbols.now ≤ length exponents.now) × (length symbols.now ≤ 255) × (all_below (size self.powers.codec.code.header) symbols.now ≡ true) }
         ensures { result ≡ padded 255 (unchirped self.entry.powers.codec.code.header symbols.now) }
     {
         let n = self.powers.codec.code.header.n as usize;

@@ -28,11 +28,16 @@ impl Transform<'_, '_> {
     {
         let h = self.powers.codec.code.header;
         let n = h.n as usize;
-        let exponents = chirps::exponents(n);
-        let row = self.chirps(&exponents);
-        let weights = self.unchirp(&exponents, self.lane);
+        let size = 2 * n;
+        let mut places: [u8; 510] = kernel::filled(0);
+        let exponents = &mut places[..size];
+        chirps::fill_exponents(n, exponents);
+        let mut room: [u16; 510] = kernel::filled(0);
+        let row = &mut room[..size];
+        self.fill_chirps(exponents, row);
+        let weights = self.unchirp(exponents, self.lane);
         let mut sums: [u16; 255] = kernel::filled(0);
-        sliding_sums::window_sums(h.field, &weights[..n], &row, &mut sums[..n]);
-        self.unchirp(&exponents, &sums[..n])
+        sliding_sums::window_sums(h.field, &weights[..n], row, &mut sums[..n]);
+        self.unchirp(exponents, &sums[..n])
     }
 }

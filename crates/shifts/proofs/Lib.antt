@@ -1,2 +1,0 @@
--- Laws of arrays.
-pub mod Mapped
