@@ -4,9 +4,10 @@
     bench/store.py [ROUNDS] [MEGABYTES]
 
 All write to folders in memory, so that no disk is timed, and sync what they write; the ways run in turn, round after round, and the
-best time of each counts: by the clock, for which two threads need two idle cores, and of processors. Ours in one thread and in as many as there are cores. zfec by its Python calls, as its command
-is in Python too; its shares have no checksums. par2 is a program; its parts are the image in k files and n-k volumes of recovery
-blocks. What is got back is compared. A peer that is missing is left out (apt-get install python3-zfec par2).
+best time of each counts: by the clock, for which two cores have to be idle where two are used, and of processors. Ours on one core, on
+two, and on as many as there are. zfec by its Python calls, as its command is in Python too; it uses one core, and its shares have no
+checksums. par2 is a program; its parts are the image in k files and n-k volumes of recovery blocks. What is got back is compared.
+A peer that is missing is left out (apt-get install python3-zfec par2).
 """
 import os
 import resource
@@ -40,11 +41,12 @@ def kept(path, parts):
 
 
 class Ours:
-    def __init__(self, top, n, k, threads):
-        self.name, self.n, self.k = f"ours, {threads} thread{'s' if threads > 1 else ''}", n, k
-        self.top = top / f"ours{threads}"
+    def __init__(self, top, n, k, cores):
+        self.name, self.n, self.k = f"ours, {cores} core{'s' if cores > 1 else ''}", n, k
+        self.top = top / f"ours{cores}"
+        self.top.mkdir()
         init.init(str(self.top / "store.toml"), k, [str(self.top / f"n{node}") for node in range(n)], 4096)
-        self.store = Store(str(self.top / "store.toml"), threads=threads)
+        self.store = Store(str(self.top / "store.toml"), threads=cores)
 
     def put(self, image):
         put.put(self.store, "image", str(image))
@@ -190,7 +192,7 @@ def one_round(way, image, target):
 
 
 def ways_of(top, n, k):
-    yield from (Ours(top, n, k, threads) for threads in sorted({1, pipeline.workers()}))
+    yield from (Ours(top, n, k, cores) for cores in sorted({1, min(2, pipeline.workers()), pipeline.workers()}))
     if zfec:
         yield Zfec(top, n, k)
     if shutil.which("par2"):
@@ -208,8 +210,6 @@ def main(rounds=5, megabytes=64):
         for n, k in RECORDS:
             top = Path(folder) / f"{n}-{k}"
             top.mkdir()
-            (top / "ours1").mkdir()
-            (top / f"ours{pipeline.workers()}").mkdir(exist_ok=True)
             ways, best = list(ways_of(top, n, k)), {}
             for turn in range(rounds):
                 for way in ways:

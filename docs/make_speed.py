@@ -81,7 +81,7 @@ def bars(drawing, ratios, build, left, middle, unit):
     """For each code a bar per call: the build's time over ISA-L's at 4,096 lanes, on a scale of powers of two."""
     width, group = 46, 186
     scale(drawing, left, left + len(CODES) * group, middle, unit)
-    drawing.text(left, middle - 3 * unit - 12, BUILDS[build], 12)
+    drawing.text(left, middle - 3 * unit - 30, BUILDS[build], 12)
     for place, (n, k) in enumerate(CODES):
         x = left + place * group + 18
         for number, (call, colour) in enumerate(COLOURS.items()):
@@ -95,13 +95,13 @@ def bars(drawing, ratios, build, left, middle, unit):
 
 def picture(ratios):
     """A panel for each build, one below the other."""
-    left, unit, middle = MARGIN + text_width("0.125", 12) + 8, 26, 172
+    left, unit, middle = MARGIN + text_width("0.125", 12) + 8, 26, 190
     drawing = Drawing("Our time over that of ISA-L, the same work", "4,096 lanes, the field of 256 elements; below 1 we are faster")
     for build in BUILDS:
         if any(key[0] == build for key in ratios):
             bars(drawing, ratios, build, left, middle, unit)
-            middle += 6 * unit + 70
-    drawing.legend(left, middle - 3 * unit - 22, [(colour, call.capitalize()) for call, colour in COLOURS.items()])
+            middle += 6 * unit + 96
+    drawing.legend(left, middle - 3 * unit - 50, [(colour, call.capitalize()) for call, colour in COLOURS.items()])
     return drawing.done()
 
 

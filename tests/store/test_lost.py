@@ -1,7 +1,7 @@
 """Nodes that are lost: as many as the code allows, in every command; one more is refused with status 3, and changes nothing."""
 import unittest
 
-from support import StoreCase
+from support import StoreCase, command
 
 
 class Lost(StoreCase):
@@ -62,8 +62,13 @@ class Lost(StoreCase):
     def test_update_to_another_length_and_rm(self):
         lost = self.lost(2)
         with self.without(*lost):
+            self.absent = self.right("update", "image", self.file(b"short"))["absent"]
+            _, said, _ = command("--store", self.store, "update", "image", self.file(b"shorter"))
+            self.assertIn("image: another length, 7 bytes: written anew at 3 nodes, generation 3\n", said)
+            self.assertEqual(said.count("  without node "), 2)
             self.right("update", "image", self.file(b"short"))
             self.assertEqual(self.got(), b"short")
+        self.assertEqual(sorted(self.absent), sorted(map(str, lost)))
         self.brought_back(b"short")
         with self.without(*self.lost(2)):
             self.right("rm", "image")
@@ -116,6 +121,27 @@ class Lost(StoreCase):
                 self.assertIn("needed", self.refused(3, *words))
         self.assertEqual([self.share(node).read_bytes() for node in range(5)], before)
         self.all_right(self.data)
+
+    def test_what_is_said_of_nodes_that_have_left(self):
+        """Where nodes have left, and the others are too few, each of them is named."""
+        for node in (0, 2, 3):
+            self.right("leave", node)
+        self.assertEqual(self.refused(3, "list"), "list: 2 nodes are here, and 3 are needed\n"
+                         "  node 0: it has left\n  node 2: it has left\n  node 3: it has left")
+        _, said, _ = command("--store", self.store, "leave", 4)
+        self.assertIn("these are too few", said)
+
+    def test_what_is_said_of_a_lost_image(self):
+        for node in range(3):
+            self.share(node).unlink()
+        for words, line in ((["list"], "image: fewer than 3 nodes hold a share of one write\n"),
+                            (["check"], "image: lost: fewer than 3 nodes hold a share of one write\n"),
+                            (["rebuild", 0], "image: lost: fewer than 3 nodes hold a share of one write\n")):
+            status, said, _ = command("--store", self.store, *words)
+            self.assertEqual((status, [one + "\n" for one in said.splitlines() if one.startswith("image")]), (3, [line]))
+        self.right("rm", "--force", "image")
+        _, said, _ = command("--store", self.store, "rebuild", 0, 1)
+        self.assertTrue(said.startswith("nodes 0 1: of the store; there is no image to be made anew\n"), said)
 
     def test_all_at_once_and_nodes(self):
         with self.without(*range(5)):

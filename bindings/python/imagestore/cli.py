@@ -21,7 +21,7 @@ def common():
     parser.add_argument("--store", metavar="STORE.toml", help="the store's file")
     parser.add_argument("--json", action="store_true", help="print one JSON object")
     parser.add_argument("--wait", type=float, metavar="SECONDS", help="wait so long for another command's lock (10)")
-    parser.add_argument("--threads", type=int, metavar="N", help="threads for blocks (as many as there are cores)")
+    parser.add_argument("--threads", type=int, metavar="N", help="work on so many batches of blocks at a time (as many as there are cores)")
     return parser
 
 

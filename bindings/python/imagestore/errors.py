@@ -39,6 +39,11 @@ class NodesFailed(StoreError):
         return NodesFailed, (self.why,)
 
 
+def for_nodes(why):
+    """A line for each node that something is to be said of."""
+    return "".join(f"\n  node {node}: {said}" for node, said in sorted(why.items()))
+
+
 def of_disk(error):
     """What the system says of an error, in words: the file, where one is named, and the reason."""
     if not isinstance(error, OSError) or not error.strerror:

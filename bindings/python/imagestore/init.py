@@ -4,7 +4,7 @@ import os
 import balanced
 
 from . import carrier, repair, settings
-from .errors import StoreError
+from .errors import StoreError, for_nodes
 from .node import FREE, MAKE
 from .session import Session
 
@@ -36,7 +36,7 @@ def greet(wanted, how):
     """What the nodes of a new store say that cannot be, or become, its nodes."""
     every = range(len(wanted.nodes))
     with Session(wanted, every, make=every, how=how) as session:
-        return "".join(f"\n  node {node}: {why}" for node, why in sorted(session.down.items()))
+        return for_nodes(session.down)
 
 
 def init(path, needed, nodes, lanes, ssh=None, program=None):

@@ -1,7 +1,7 @@
 """Shares read from nodes, block by block from nodes whose checksums are right and that hold symbols: what fails is read
 elsewhere, and named."""
 from . import coding, frames
-from .errors import TooFewNodes
+from .errors import TooFewNodes, for_nodes
 from .frames import Request
 
 
@@ -73,9 +73,8 @@ class Reader:
             yield block, dict(list(held[block].items())[:k])
 
     def too_few(self, block, count):
-        down = "".join(f"\n  node {node}: {why}" for node, why in sorted(self.session.down.items()))
-        wrong = "".join(f"\n  node {node}: {self.said(node)}" for node in sorted(self.faults))
-        return f"{self.layout.name}: block {block} is right at {count} nodes, and {self.store.plan.k} are needed{down}{wrong}"
+        why = for_nodes({**{node: self.said(node) for node in self.faults}, **self.session.down})
+        return f"{self.layout.name}: block {block} is right at {count} nodes, and {self.store.plan.k} are needed{why}"
 
     def said(self, node):
         """What is wrong with a node, in words."""

@@ -139,4 +139,4 @@ def rebuild(store, targets, whole=False):
                 rebuild_node(store, session, target, outcome, whole)
             except NodesFailed as error:
                 raise StoreError(str(error)) from None
-        return {**outcome, "needed": store.plan.k, "absent": dict(session.down), "traffic": session.traffic()}
+        return {**outcome, "nodes": list(dict.fromkeys(targets)), "needed": store.plan.k, "absent": dict(session.down), "traffic": session.traffic()}

@@ -18,6 +18,11 @@ def with_reasons(word, reasons):
     return [f"  {word} node {node}: {why}" for node, why in sorted(reasons.items())]
 
 
+def about(name, sentence):
+    """A sentence on an image, which may begin with the name already."""
+    return sentence.removeprefix(f"{name}: ")
+
+
 def total(result, figure):
     return sum(node[figure] for node in result["traffic"].values())
 
@@ -69,7 +74,7 @@ def list_images(result):
     lines, status = [], 0
     for one in result["images"]:
         if "length" not in one:
-            lines.append(f"{one['image']}: {one.get('lost') or one.get('doubt')}")
+            lines.append(f"{one['image']}: {about(one['image'], one.get('lost') or one.get('doubt'))}")
             status = 3 if "lost" in one else 1
             continue
         right = f"right at {several(len(one['right']), 'node')}" + (", a write is unfinished" if one["unsettled"] else "")
@@ -88,7 +93,7 @@ def check(result):
         lines.append(f"{one['image']}: {what}: {word}")
         lines += [f"  set right node {node}: {one['found'][node]}" for node in one["corrected"] if node not in one["wrong"]]
         lines += with_reasons("wrong", one["wrong"]) + [f"  {why}" for why in one["doubts"] + one["lost"]]
-    lines += [f"{name}: lost: {why}" for name, why in result["lost"].items()] + list(result["failed"].values())
+    lines += [f"{name}: lost: {about(name, why)}" for name, why in result["lost"].items()] + list(result["failed"].values())
     lines += with_reasons("absent", result["absent"]) + [moved(result)]
     return 3 if lost else int(wrong), lines
 
@@ -100,7 +105,9 @@ def rm(result):
 def update(result):
     name, generation = result["image"], result["generation"]
     if result["changed"] is None:
-        return 0, [f"{name}: another length, {several(result['length'], 'byte')}: written anew, generation {generation}", moved(result)]
+        return 0, [
+            f"{name}: another length, {several(result['length'], 'byte')}: written anew at {several(len(result['nodes']), 'node')}, "
+            f"generation {generation}", moved(result), *with_reasons("without", result["absent"])]
     if not result["changed"]:
         return 0, [f"{name}: nothing differs, generation {generation}"]
     lines = [
@@ -120,7 +127,9 @@ def rebuild(result):
     for one in result["rebuilt"]:
         lines.append(f"node {one['node']}, {one['image']}: a share of {several(one['share'], 'byte')} made anew")
         lines.append(f"  {several(one['read'], 'byte')} read; {result['needed']} whole shares are {number(one['whole'])}")
-    lines += [moved(result), *[f"{name}: lost: {why}" for name, why in result["lost"].items()], *result["failed"].values()]
+    if not (result["rebuilt"] or result["lost"] or result["failed"]):
+        lines.append(f"{'nodes' if len(result['nodes']) > 1 else 'node'} {listed(result['nodes'])}: of the store; there is no image to be made anew")
+    lines += [moved(result), *[f"{name}: lost: {about(name, why)}" for name, why in result["lost"].items()], *result["failed"].values()]
     lines += with_reasons("wrong", result["wrong"]) + with_reasons("absent", result["absent"])
     return 3 if result["lost"] else int(bool(result["failed"])), lines
 

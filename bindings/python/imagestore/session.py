@@ -9,7 +9,7 @@ import time
 from functools import partial
 
 from . import frames, interrupts, lock
-from .errors import Busy, NodesFailed, Refused, StoreError, TooFewNodes, of_disk
+from .errors import Busy, NodesFailed, Refused, StoreError, TooFewNodes, for_nodes, of_disk
 from .frames import Request
 from .link import FolderLink
 from .node import MAKE
@@ -124,8 +124,8 @@ class Session:
     def need(self, count, what):
         """Sees that so many nodes are here."""
         if len(self.links) < count:
-            reasons = "".join(f"\n  node {node}: {why}" for node, why in sorted(self.down.items()))
-            raise TooFewNodes(f"{what}: {len(self.links)} nodes are here, and {count} are needed{reasons}")
+            away = {node: self.down.get(node, "it has left") for node in range(len(self.settings.nodes)) if node not in self.links}
+            raise TooFewNodes(f"{what}: {len(self.links)} nodes are here, and {count} are needed{for_nodes(away)}")
 
     def everyone(self):
         """The links by their nodes, of those that are down too."""

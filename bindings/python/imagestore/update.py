@@ -5,7 +5,7 @@ them among them; where one of them is away, all others are told.
 """
 from . import compare, digest, frames, lock, pipeline, share, twophase
 from .changes import Changes, change_block
-from .errors import NodesFailed, StoreError, TooFewNodes, UsageError
+from .errors import NodesFailed, StoreError, TooFewNodes, UsageError, for_nodes
 from .frames import Request
 from .names import check_name
 from .put import absent
@@ -63,7 +63,8 @@ def attempt(store, session, seen, place, source):
     """Prepares an update; gives its header, None where nothing changes, and the changes."""
     able = [node for node in seen.right() if node in session.links]
     if len(able) < store.plan.k:
-        raise TooFewNodes(f"{seen.name}: {len(able)} nodes hold it right, and {store.plan.k} are needed")
+        why = for_nodes({**seen.faults, **session.down})
+        raise TooFewNodes(f"{seen.name}: {len(able)} nodes are here that hold it right, and {store.plan.k} are needed{why}")
     reader = Reader(store, session, seen)
     with twophase.dropped_on_failure(session, seen.name, able):
         changes, begun = send_changes(store, session, seen, reader, place, source, able)

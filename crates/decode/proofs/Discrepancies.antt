@@ -23,10 +23,10 @@ use Rattle.decode.proofs.Bridge.{F, term, term_number, Holds, partial_take}
 
 module _ (p : ℕ) (v : is_field p ≡ true) (s : List ℕ) (below_s : Below (size_of p) s) where
   -- numbers as symbols
-  abbrev as_symbols : List ℕ → List (Symbol (size_of p))
+  abbrev pub as_symbols : List ℕ → List (Symbol (size_of p))
   as_symbols ys = symbols (size_of p) (size_pos p v) ys
 
-  dot_discrepancy : (ys : List ℕ) (e : ℕ) → all_below (size_of p) ys ≡ true → length ys ≤ length (drop e s) → dot p ys (drop e s) ≡ (discrepancy (F p v) (as_symbols ys) (term p v s) e).0
+  pub dot_discrepancy : (ys : List ℕ) (e : ℕ) → all_below (size_of p) ys ≡ true → length ys ≤ length (drop e s) → dot p ys (drop e s) ≡ (discrepancy (F p v) (as_symbols ys) (term p v s) e).0
   unfolding dot
   dot_discrepancy [] e b h = refl
   dot_discrepancy (y ∷ ys) e b h =

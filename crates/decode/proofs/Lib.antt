@@ -8,6 +8,9 @@ pub mod Values
 pub mod Removing
 pub mod RootNodes
 pub mod ErrorSymbols
+pub mod Locators
+pub mod Repaired
+pub mod NodeParts
 pub mod Found
 pub mod CandidateParts
 pub mod Verdict

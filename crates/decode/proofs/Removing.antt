@@ -18,7 +18,7 @@ use Rattle.field.proofs.FieldOf.{size_pos}
 use Rattle.decode.specs.Inner.Errors.{removed}
 
 -- a place of a list that is padded, set
-set_padded : (n : ℕ) (ws : List ℕ) (j x : ℕ) → j < length ws → set (padded n ws) j x ≡ padded n (set ws j x)
+pub set_padded : (n : ℕ) (ws : List ℕ) (j x : ℕ) → j < length ws → set (padded n ws) j x ≡ padded n (set ws j x)
 unfolding padded
 set_padded n ws j x low = rw (length-set ws j x) (set-append_left ws (zeros _) j x low)
 

@@ -1,25 +1,20 @@
--- The nodes at which a polynomial vanishes: they are few, rising, and below n; and what a loop that lists them has at the end.
+-- The nodes at which a polynomial vanishes: they are below n, and no node stands twice.
 use mathlib.Core.Path.{◌≡◌}
 use mathlib.Core.Bool.{Bool, true}
 use mathlib.Core.List.{List}
 use Prim.Native.Nat.{ℕ, ◌+◌, ◌≤◌, ◌<◌}
 use native.Mathlib.Omega.{arith}
 use lib.Dec.{eqb}
-use lib.ListN.{length}
 use Rattle.lists.specs.Counting.{passing_from}
 use Rattle.lists.specs.Numbers.{all_below}
 use Rattle.lists.proofs.All.{All-imp, Distinct}
 use Rattle.lists.proofs.Numbers.{all_below_lem}
-use Rattle.lists.proofs.Passing.{passing_most, passing_within, passing_rises, rises_distinct}
+use Rattle.lists.proofs.Passing.{passing_within, passing_rises, rises_distinct}
 use Rattle.field.specs.Fields.{power}
 use Rattle.generator.specs.Codewords.{poly_at}
 use Rattle.decode.specs.Inner.Errors.{roots_of}
 
 module _ (p root n : ℕ) (cs : List ℕ) where
-  pub few_roots : length (roots_of p root n cs) ≤ n
-  unfolding roots_of
-  few_roots = passing_most n 0 (λ j. eqb (poly_at p cs (power p root j)) 0)
-
   pub roots_low : all_below n (roots_of p root n cs) ≡ true
   unfolding roots_of
   roots_low =

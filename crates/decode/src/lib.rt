@@ -15,9 +15,9 @@ use generator::Codec;
 use interpolation::polynomials::Polynomial;
 
 mod errors;
-mod lanes;
-mod locator;
-mod roots;
+pub mod lanes;
+pub mod locator;
+pub mod roots;
 
 use lanes::{differing, removed};
 use locator::locate;
@@ -33,10 +33,10 @@ pub struct Corrected {
 
 // The check sums of a lane over a code, with zeros after them: from these alone the errors are told.
 #[derive(Clone, Copy)]
-struct Syndrome<'a, 's> {
-    codec: Codec<'a>,
-    sums: &'s [u16; 255],
-    ghost symbols: { Below (size codec.code.header) sums.now },
+pub struct Syndrome<'a, 's> {
+    pub codec: Codec<'a>,
+    pub sums: &'s [u16; 255],
+    pub ghost symbols: { Below (size codec.code.header) sums.now },
 }
 
 impl Syndrome<'_, '_> {

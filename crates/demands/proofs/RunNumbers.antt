@@ -1,5 +1,5 @@
 -- The numbers of an update of a run of lanes: the lowest of its table that is met.
-use mathlib.Core.Path.{◌≡◌, refl, sym, ap, ◌∙◌}
+use mathlib.Core.Path.{◌≡◌, refl, sym, ap, subst, ◌∙◌}
 use mathlib.Core.Logic.{◌↔◌, ◌⊎◌, inl, inr, ⊎_elim, by_cases}
 use mathlib.Core.Bool.{true}
 use mathlib.Core.List.{List}
@@ -52,7 +52,7 @@ module _ (h : Header) (s : Sound h) (ws : List ℕ) (long : length ws ≡ h.n) (
       let (ms, m, at, holds) = may in
       by_cases (ℕ_discrete (stale_fault h ws r old) 0) (λ none. none)
       (λ some.
-      ⊎_elim (λ x. absurd (x.1 (rw at at (encoding_word h s ms m))))
+      ⊎_elim (λ x. absurd (x.1 (subst (Codeword h) at (encoding_word h s ms m))))
       (⊎_elim
       (λ x.
       let (us, u, there, other) = x.1 in

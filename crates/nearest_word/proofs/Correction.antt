@@ -1,4 +1,4 @@
--- The error at a root of the locator, from the syndromes and a polynomial that vanishes at the other roots: the word near enough without interpolation.
+-- The error at one place, from the syndromes and a polynomial that vanishes at every other place that is wrong: the word near enough without interpolation.
 use mathlib.Core.Path.{◌≡◌, sym, ap, fun_ext, ◌∙◌}
 use mathlib.Core.List.{List, map}
 use Prim.Native.Nat.{ℕ, zero, suc, ◌+◌, ◌≤◌, ◌<◌}
@@ -16,10 +16,8 @@ use Rattle.algebra.proofs.Poly.{eval}
 use Rattle.algebra.specs.Powers.{pow, Order}
 use Rattle.algebra.proofs.Powers.{pow_nonzero, order_nonzero}
 use Rattle.algebra.proofs.Vandermonde.{moment}
-use Rattle.nearest_word.proofs.Selection.{dec_not, All-unkeep}
 use Rattle.nearest_word.proofs.Recurrence.{discrepancy}
-use Rattle.nearest_word.proofs.Massey.{Locator}
-use Rattle.nearest_word.proofs.Errors.{value, syndrome, error, wrong, syndrome_errors, discrepancy_agree, discrepancy_moment, comb_keep, errors_located}
+use Rattle.nearest_word.proofs.Errors.{value, syndrome, error, wrong, syndrome_errors, discrepancy_agree, discrepancy_moment, comb_keep}
 
 -- What holds of all consecutive numbers holds of each.
 pub range_at : (P : ℕ → Type 0) (s n : ℕ) → All P (range s n) → (i : ℕ) → s ≤ i → i < s + n → P i
@@ -58,40 +56,37 @@ module _ (F : Field) where
       ∙ ap (λ y. e ⊗ y) (mul_inv z hz)
       ∙ mul-one e
 
-  module _ (a : Carrier) (n : ℕ) (o : Order F a n) (f : List Carrier) (y : ℕ → Carrier) (k t : ℕ) (size : length f ≡ k) (bound : k + (t + t) ≤ n) (few : length (wrong F a n o f y) ≤ t) (v : List Carrier) (locator : Locator F (syndrome F a n y) t v) where
+  module _ (a : Carrier) (n : ℕ) (o : Order F a n) (f : List Carrier) (y : ℕ → Carrier) where
     abbrev e : ℕ → Carrier
     e = error F a n o f y
 
-    -- At a place other than j the error or the polynomial is zero.
-    term_zero : (j : ℕ) (N : List Carrier) → ((l : ℕ) → l < n → (l ≡ j → ⊥) → value F a v l ≡ 0f → value F a N l ≡ 0f) → (l : ℕ) → l < n → (l ≡ j → ⊥) → e l ⊗ (value F a N l ⊗ pow F a l) ≡ 0f
-    term_zero j N h l b d = go (decide (y l) (value F a f l))
-      where
-        go : Dec (y l ≡ value F a f l) → e l ⊗ (value F a N l ⊗ pow F a l) ≡ 0f
-        go (yes q) = ap (λ x. (x ⊕ ⊖ value F a f l) ⊗ (value F a N l ⊗ pow F a l)) q ∙ ap (λ x. x ⊗ (value F a N l ⊗ pow F a l)) (add_neg (value F a f l)) ∙ zero-mul F (value F a N l ⊗ pow F a l)
-        go (no q) =
-            let z =
-            h l b d
-            (range_at (λ l. (y l ≡ value F a f l → ⊥) → value F a v l ≡ 0f) 0 n
-            (All-unkeep (λ l. y l ≡ value F a f l → ⊥) (λ l. dec_not (decide (y l) (value F a f l))) (λ l. value F a v l ≡ 0f) (range 0 n) (errors_located F a n o f y k t size bound few v locator))
-            l (omega arith) (omega arith) q) in
-            ap (λ x. e l ⊗ (x ⊗ pow F a l)) z ∙ ap (λ x. e l ⊗ x) (zero-mul F (pow F a l)) ∙ mul-zero F (e l)
+    no_error : (j : ℕ) → y j ≡ value F a f j → e j ≡ 0f
+    no_error j q = ap (λ x. x ⊕ ⊖ value F a f j) q ∙ add_neg (value F a f j)
 
-    -- A polynomial N of length at most 2t that vanishes at the roots of the locator other than a^j has the discrepancy (y_j − u_j)·N(a^j)·a^j.
-    pub error_value : (j : ℕ) → j < n → (N : List Carrier) → length N ≤ t + t → ((l : ℕ) → l < n → (l ≡ j → ⊥) → value F a v l ≡ 0f → value F a N l ≡ 0f) → discrepancy F N (syndrome F a n y) 0 ≡ e j ⊗ (value F a N j ⊗ pow F a j)
-    error_value j b N l h =
+    -- the discrepancies of a polynomial against the syndromes are sums over all places of the errors times its values
+    pub discrepancy_errors : (N : List Carrier) (i : ℕ) → length N + i + length f ≤ n → discrepancy F N (syndrome F a n y) i ≡ comb F (λ j. value F a N j ⊗ pow F (pow F a j) (suc i)) (map e (range 0 n)) (range 0 n)
+    discrepancy_errors N i l =
         let w = wrong F a n o f y in
-        let g : ℕ → Carrier = λ i. value F a N i ⊗ pow F a i in
-        discrepancy_agree F N (syndrome F a n y) (λ i. moment F (map e w) (map (pow F a) w) (suc i)) 0 (t + t) (omega arith) (λ i c. syndrome_errors F a n o f y i (omega arith))
-        ∙ discrepancy_moment F N (map e w) (map (pow F a) w) 0
-        ∙ comb_map F (λ x. eval F N x ⊗ pow F x 1) (pow F a) (map e w) w
-        ∙ ap (λ p. comb F p (map e w) w) (fun_ext (λ i. ap (λ x. value F a N i ⊗ x) (mul-one (pow F a i))))
-        ∙ comb_keep F (λ i. y i ≡ value F a f i) (λ i. decide (y i) (value F a f i)) g e (λ i q. ap (λ x. x ⊕ ⊖ value F a f i) q ∙ add_neg (value F a f i)) (range 0 n)
-        ∙ comb_single g e j n b (λ i c d. term_zero j N h i (omega arith) d)
+        discrepancy_agree F N (syndrome F a n y) (λ i. moment F (map e w) (map (pow F a) w) (suc i)) i (length N + i) (omega arith) (λ i c. syndrome_errors F a n o f y i (omega arith))
+        ∙ discrepancy_moment F N (map e w) (map (pow F a) w) i
+        ∙ comb_map F (λ x. eval F N x ⊗ pow F x (suc i)) (pow F a) (map e w) w
+        ∙ comb_keep F (λ i. y i ≡ value F a f i) (λ i. decide (y i) (value F a f i)) (λ j. value F a N j ⊗ pow F (pow F a j) (suc i)) e no_error (range 0 n)
+
+    -- A polynomial N that vanishes at every wrong place other than j has the discrepancy (y_j − u_j)·N(a^j)·a^j.
+    pub error_at : (j : ℕ) → j < n → (N : List Carrier) → length N + length f ≤ n → ((l : ℕ) → l < n → (l ≡ j → ⊥) → (y l ≡ value F a f l → ⊥) → value F a N l ≡ 0f) → discrepancy F N (syndrome F a n y) 0 ≡ e j ⊗ (value F a N j ⊗ pow F a j)
+    error_at j b N l h =
+        discrepancy_errors N 0 (omega arith)
+        ∙ ap (λ g. comb F g (map e (range 0 n)) (range 0 n)) (fun_ext (λ j. ap (λ x. value F a N j ⊗ x) (mul-one (pow F a j))))
+        ∙ comb_single (λ j. value F a N j ⊗ pow F a j) e j n b (λ i c d. zero i c d (decide (y i) (value F a f i)))
+      where
+        zero : (i : ℕ) → i < n → (i ≡ j → ⊥) → Dec (y i ≡ value F a f i) → e i ⊗ (value F a N i ⊗ pow F a i) ≡ 0f
+        zero i c d (yes q) = ap (λ x. x ⊗ (value F a N i ⊗ pow F a i)) (no_error i q) ∙ zero-mul F (value F a N i ⊗ pow F a i)
+        zero i c d (no q) = ap (λ x. e i ⊗ (x ⊗ pow F a i)) (h i c d q) ∙ ap (λ x. e i ⊗ x) (zero-mul F (pow F a i)) ∙ mul-zero F (e i)
 
     -- So the word has at place j what is left of y_j after that error, if N does not vanish at a^j.
-    pub error_removed : (j : ℕ) → j < n → (N : List Carrier) → length N ≤ t + t → ((l : ℕ) → l < n → (l ≡ j → ⊥) → value F a v l ≡ 0f → value F a N l ≡ 0f) → (value F a N j ≡ 0f → ⊥) → value F a f j ≡ y j ⊕ ⊖ (discrepancy F N (syndrome F a n y) 0 ⊗ inv (value F a N j) ⊗ inv (pow F a j))
+    pub error_removed : (j : ℕ) → j < n → (N : List Carrier) → length N + length f ≤ n → ((l : ℕ) → l < n → (l ≡ j → ⊥) → (y l ≡ value F a f l → ⊥) → value F a N l ≡ 0f) → (value F a N j ≡ 0f → ⊥) → value F a f j ≡ y j ⊕ ⊖ (discrepancy F N (syndrome F a n y) 0 ⊗ inv (value F a N j) ⊗ inv (pow F a j))
     error_removed j b N l h m =
         sym
-        (ap (λ d. y j ⊕ ⊖ (d ⊗ inv (value F a N j) ⊗ inv (pow F a j))) (error_value j b N l h)
+        (ap (λ d. y j ⊕ ⊖ (d ⊗ inv (value F a N j) ⊗ inv (pow F a j))) (error_at j b N l h)
         ∙ ap (λ d. y j ⊕ ⊖ d) (divided (e j) (value F a N j) (pow F a j) m (pow_nonzero F a (order_nonzero F a n o) j))
         ∙ neg_back (y j) (value F a f j))

@@ -5,6 +5,7 @@ pub mod Massey
 pub mod Weights
 pub mod Errors
 pub mod Correction
+pub mod Searches
 pub mod Near
 pub mod Corrected
 pub mod Repair

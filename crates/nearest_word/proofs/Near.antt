@@ -1,6 +1,6 @@
 -- At most one word of the code differs from a lane at no more than (n − k)/2 nodes.
 use mathlib.Core.Path.{◌≡◌, refl, sym, ap, ap₂, ◌∙◌}
-use mathlib.Core.Bool.{true, false, not, true≢false}
+use mathlib.Core.Bool.{true, not}
 use mathlib.Core.List.{List, map}
 use Prim.Native.Nat.{ℕ, zero, suc, ◌+◌, ◌≤◌, ◌<◌}
 use native.Mathlib.Nat as Nat
@@ -12,12 +12,11 @@ use Rattle.lists.specs.Choice.{when}
 use Rattle.lists.specs.Rows.{from, range}
 use Rattle.lists.specs.Counting.{count_from, differ}
 use Rattle.lists.specs.Numbers.{all_below}
-use Rattle.lists.proofs.All.{All-map}
+use Rattle.lists.proofs.All.{All, All-map}
 use Rattle.std.proofs.lemmas.Bool.{and_parts}
-use Rattle.lists.proofs.Cases.{by_test}
 use Rattle.lists.proofs.Differ.{differ_by}
 use Rattle.lists.proofs.Numbers.{below_at}
-use Rattle.lists.proofs.Count.{count_ext}
+use Rattle.lists.proofs.Count.{count_ext, count_not}
 use Rattle.lists.proofs.Rows.{get_or_from}
 use Rattle.lists.proofs.Places.{Places-range, length_range, map_range}
 use Rattle.algebra.specs.Field.{Field}
@@ -36,7 +35,8 @@ use Rattle.generator.proofs.Recovery.{lifted, lifted_numbers, length_lifted}
 use Rattle.generator.proofs.Words.{words_poly}
 use Rattle.nearest_word.specs.Nearest.{radius, is_near, has_near, nearest}
 use Rattle.nearest_word.proofs.Selection.{dec_not, cons_if, keep, All-keep, length_keep, Places-keep}
-use Rattle.nearest_word.proofs.Errors.{value, faults}
+use Rattle.nearest_word.proofs.Errors.{value, faults, length_free}
+use Rattle.nearest_word.proofs.Searches.{only_one}
 use Rattle.lists.proofs.AllLists.{Passes, any_list_lem, first_list_lem}
 
 -- polynomials of length k whose words agree at k places are equal
@@ -73,7 +73,7 @@ module _ (h : Header) (s : Sound h) where
   radius_fits = omega (arith, s.fits)
 
   -- the places at which symbols differ, as numbers
-  faults_count : (y u : ℕ → Symbol (size h)) (i n : ℕ) → length (faults F y u (range i n)) ≡ count_from n i (λ j. not (eqb (y j).0 (u j).0))
+  pub faults_count : (y u : ℕ → Symbol (size h)) (i n : ℕ) → length (faults F y u (range i n)) ≡ count_from n i (λ j. not (eqb (y j).0 (u j).0))
   unfolding from count_from
   faults_count y u i zero = refl
   faults_count y u i (suc n) = step i (faults F y u (range (i + 1) n)) (faults_count y u (i + 1) n) (F.decide (y i) (u i))
@@ -81,6 +81,11 @@ module _ (h : Header) (s : Sound h) where
       step : (j : ℕ) (l : List ℕ) {m : ℕ} → length l ≡ m → (d : Dec (y j ≡ u j)) → length (cons_if (dec_not d) j l) ≡ when (not (eqb (y j).0 (u j).0)) 1 + m
       step j l {m} e (yes q) = rw (eq-eqb (y j).0 (u j).0 (ap (λ (x : Symbol (size h)). x.0) q)) (e ∙ sym (Nat.zero-add m))
       step j l {m} e (no q) = rw (ne_eqb (y j).0 (u j).0 (λ z. q (symbol_path (size h) z))) (omega (arith, e))
+
+  -- a polynomial that is not zero, of length at most t + 1, vanishes at no more than t nodes
+  pub count_roots : (t : ℕ) (v : List (Symbol (size h))) → length v ≤ suc t → (All (λ c. c ≡ F.0f) v → ⊥) → count_from h.n 0 (λ j. eqb (value F a v j).0 0) ≤ t
+  count_roots t v l z =
+      omega (arith, length_free F a h.n o t v l z, faults_count (value F a v) (λ j. F.0f) 0 h.n, count_not h.n 0 (λ j. eqb (value F a v j).0 0))
 
   -- the values of a polynomial as numbers
   pub numbers_values : (f : List (Symbol (size h))) (j : ℕ) → j < h.n → get_or (numbers (size h) (values F a f (range 0 h.n))) j 0 ≡ (value F a f j).0
@@ -152,16 +157,8 @@ module _ (h : Header) (s : Sound h) where
 
     -- symbols that every word that near must be: whether there is one is whether they are one
     pub judged : (us : List ℕ) → length us ≡ h.n → all_below (size h) us ≡ true → ((vs : List ℕ) → Near ws vs → vs ≡ us) → (has_near h ws ≡ is_near h ws us) × (is_near h ws us ≡ true → nearest h ws ≡ us)
-    judged us l b only = (by_test (has_near h ws) found_one none, λ t. (nearest_is us (record { long = l; below = b; passes = t })).1)
-      where
-        found_one : has_near h ws ≡ true → has_near h ws ≡ is_near h ws us
-        found_one t = t ∙ sym (sym (ap (is_near h ws) (only (nearest h ws) (nearest_near t))) ∙ (nearest_near t).passes)
-
-        none : has_near h ws ≡ false → has_near h ws ≡ is_near h ws us
-        none t =
-            by_test (is_near h ws us)
-            (λ e. absurd (true≢false (sym (nearest_is us (record { long = l; below = b; passes = e })).0 ∙ t)))
-            (λ e. t ∙ sym e)
+    unfolding has_near nearest
+    judged us l b only = only_one (size h) h.n (is_near h ws) us l b only
 
     module _ (below : all_below (size h) ws ≡ true) where
       at_term : (j : ℕ) → j < h.n → (term ws j).0 ≡ get_or ws j 0

@@ -69,9 +69,9 @@ impl Run<'_> {
     {
         let h = generator.codec.code.header;
         let w = symbols::width_of(h);
-        let count = self.count(h);
+        let lanes = self.count(h);
         let mut altered: u32 = 0;
-        for i in 0..count {
+        for i in 0..lanes {
             altered += self.lane(w, i).rewrite_lane(generator, shares);
         }
         altered

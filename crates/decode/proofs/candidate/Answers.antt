@@ -6,7 +6,8 @@ use lib.ListN.{length, take}
 use Rattle.lists.proofs.Padding.{take_padded}
 use Rattle.decode.specs.Inner.Errors.{errors_at}
 use Rattle.decode.specs.Inner.Candidates.{SoundLane}
-use Rattle.decode.proofs.CandidateParts.{CandidateParts, candidate_parts, sums_symbols}
+use Rattle.decode.proofs.NodeParts.{sums_symbols}
+use Rattle.decode.proofs.CandidateParts.{CandidateParts, candidate_parts}
 use Rattle.decode.proofs.candidate.Goals as goal
 use Rattle.decode.proofs.candidate.Goals.{Start, After-as_slice-nodes, After-errors-wrong}
 
@@ -27,7 +28,7 @@ errors-part : (c : After-errors-wrong)
 errors-part c =
     let nodes : List ℕ = c.as_slice-nodes.result.now in
     let is = rw c.new-codec.ensures at c.errors-wrong.ensures in
-    ap (take (length nodes)) is ∙ take_padded 255 (length nodes) _ (facts (goal.at.After-errors-wrong c).After-as_slice-nodes).errors_count
+    ap (take (length nodes)) is ∙ take_padded 255 (length nodes) _ (facts (goal.at.After-errors-wrong c).After-as_slice-nodes).parts.errors_count
 
 pub invariant_of-syndrome : goal.invariant_of-syndrome
 invariant_of-syndrome c =
@@ -36,7 +37,7 @@ invariant_of-syndrome c =
 
 pub removed-requires : goal.removed-requires
 removed-requires c =
-    let f = facts (goal.at.removed-requires c).After-as_slice-nodes in
+    let f = (facts (goal.at.removed-requires c).After-as_slice-nodes).parts in
     rw (c.new-codec.result.same, c.new-codec.ensures, errors-part (goal.at.removed-requires c).After-errors-wrong) (f.lane_symbols, f.errors_symbols, f.nodes_low, f.errors_count)
 
 pub returns : goal.returns

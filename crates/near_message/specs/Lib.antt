@@ -1,0 +1,3 @@
+-- The message nearest to the symbols of listed nodes.
+pub mod Nearest
+pub mod Inner
