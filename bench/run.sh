@@ -48,12 +48,12 @@ gcc -std=gnu11 -O2 -Wall -Wextra -Iinclude -o target/bench/bench bench/bench.c b
 target/bench/bench "${1:-15}" "${builds[@]}"
 
 # each build by itself, in a folder where the loader finds no other
-for program in wide traces carry; do
+for program in wide traces carry listed; do
     gcc -std=gnu11 -O2 -Wall -Wextra -Iinclude -o "target/bench/$program" "bench/$program.c" -Ltarget/lib -lbalanced
 done
 for ((i = 0; i < ours; i += 2)); do
     folder=target/bench/${builds[i]}
     mkdir -p "$folder"
     ln -sf "${builds[i + 1]}" "$folder/libbalanced.so.1"
-    for program in wide traces carry; do LD_LIBRARY_PATH=$folder "target/bench/$program" "${1:-15}" | sed "s/^/${builds[i]}: /"; done
+    for program in wide traces carry listed; do LD_LIBRARY_PATH=$folder "target/bench/$program" "${1:-15}" | sed "s/^/${builds[i]}: /"; done
 done

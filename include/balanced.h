@@ -85,7 +85,7 @@ enum balanced_number {
     BALANCED_SYMBOL = 11, /* a number that the call reads as a symbol is p or more, in kind 2 above 255 */
     BALANCED_WORD = 12,   /* the lane that an update is to change is no word of the code */
     BALANCED_STALE = 13,  /* the message of that lane holds another symbol than the old one */
-    BALANCED_FAR = 14,    /* some lane has no word of the code within (n-k)/2 nodes */
+    BALANCED_FAR = 14,    /* some lane has no word of the code within (n-k)/2 nodes, or (s-k)/2 of s listed ones */
     BALANCED_ALREADY = 15, /* the node already is what the event says: absent, or present */
     BALANCED_MANY = 16,   /* there are more than 65,536 messages */
     BALANCED_TRACES = 17, /* the record has no repair by traces with so many nodes missing */
@@ -122,7 +122,7 @@ static inline const char *balanced_text(unsigned number) {
     case BALANCED_SYMBOL: return "a number that the call reads as a symbol is p or more, in kind 2 above 255";
     case BALANCED_WORD: return "the lane that an update is to change is no word of the code";
     case BALANCED_STALE: return "the message of that lane holds another symbol than the old one";
-    case BALANCED_FAR: return "some lane has no word of the code within (n-k)/2 nodes";
+    case BALANCED_FAR: return "some lane has no word of the code within (n-k)/2 nodes, or (s-k)/2 of s listed ones";
     case BALANCED_ALREADY: return "the node already is what the event says: absent, or present";
     case BALANCED_MANY: return "there are more than 65,536 messages";
     case BALANCED_TRACES: return "the record has no repair by traces with so many nodes missing";
@@ -408,6 +408,33 @@ uint8_t balanced_correct(const uint8_t *record, size_t record_len,
                          uint32_t lanes,
                          uint8_t *shares, size_t shares_len,
                          uint32_t *altered);
+
+/*
+ * Recovers a message from the shares of s listed nodes, any s from k to n, of which some may be wrong: lost and wrong together. In each lane
+ * it is the one message whose encoding differs from the listed symbols at no more than (s-k)/2 of them, rounded down. There is at most
+ * one such message.
+ *
+ *   nodes      s bytes, read: s different node numbers below n, in any order; nodes_len is s
+ *   shares     s * lanes symbols, read: in each lane what those nodes hold, in the order of the list: node i of the list of lane t at
+ *              t * s + i
+ *   message    k * lanes symbols, written
+ *   wrong      s numbers, written: for each place of the list in how many lanes it held another symbol than the message's encoding does
+ *   wrong_len  s: the number of numbers, not of bytes
+ *   altered    receives the sum of these numbers
+ *
+ * If some lane has no message that near, the call returns BALANCED_FAR and nothing is written. With k nodes there always is one, and it is what
+ * balanced_recover gives; with k+1 nodes every lane must be right. With all n nodes it is the message of what balanced_correct makes of the
+ * block. A lane with more than (s-k)/2 wrong symbols may be near to another message, which then is given.
+ *
+ * Returns 0 or one of 1 to 5, 7 to 11, 14.
+ */
+uint8_t balanced_correct_listed(const uint8_t *record, size_t record_len,
+                                uint32_t lanes,
+                                const uint8_t *nodes, size_t nodes_len,
+                                const uint8_t *shares, size_t shares_len,
+                                uint8_t *message, size_t message_len,
+                                uint32_t *wrong, size_t wrong_len,
+                                uint32_t *altered);
 
 /*
  * Lists the single changes that make a lane a word of the code, lowest node first: with symbol i of `symbols` in the place of what

@@ -71,6 +71,9 @@ static uint8_t run_find_update(const struct argument *a) {
 static uint8_t run_correct(const struct argument *a) {
     return balanced_correct(a[0].at, a[1].value, u32(a + 2), a[3].at, a[4].value, a[5].at);
 }
+static uint8_t run_correct_listed(const struct argument *a) {
+    return balanced_correct_listed(a[0].at, a[1].value, u32(a + 2), a[3].at, a[4].value, a[5].at, a[6].value, a[7].at, a[8].value, a[9].at, a[10].value, a[11].at);
+}
 static uint8_t run_mends(const struct argument *a) {
     return balanced_mends(a[0].at, a[1].value, a[2].at, a[3].value, a[4].at, a[5].value, a[6].at, a[7].value, a[8].at);
 }
@@ -166,6 +169,18 @@ static void damage(size_t place) {
 }
 static void set_damaged(void) { damage(LANE * N + 3); }
 static void set_one_damaged(void) { damage(3); }
+/* two nodes more than are needed, one of which is wrong in half of the lanes and another in one lane */
+enum { LISTED = K + 2 };
+static void set_some_wrong(void) {
+    set_shares();
+    memcpy(lent.three, lent.one, ROOM);
+    for (unsigned i = 0; i < LISTED; i++) lent.one[i] = (uint8_t)((7 * i + 3) % N);
+    for (unsigned t = 0; t < LANES; t++)
+        for (unsigned i = 0; i < LISTED; i++) memcpy(lent.two + W * (t * LISTED + i), lent.three + W * (t * N + lent.one[i]), W);
+    for (unsigned t = 0; t < LANES; t += 2) lent.two[W * (t * LISTED + 5) + 1] ^= 1;
+    lent.two[W * (LISTED + 8) + 1] ^= 1;
+    memset(lent.three, 0, ROOM);
+}
 /* a message of one symbol: few enough messages to count */
 static void set_small(void) { lent.record[RECORD_LEN - 1] = 1; }
 /* a prime that carries bytes, an odd number of bytes of which some are no symbols, and the symbols that carry them */
@@ -212,6 +227,7 @@ static const struct call calls[] = {
     { "belongs", run_belongs, set_damaged, { RECORD, VALUE(LANES), READ(one, W * N * LANES), GIVES(first, "first_wrong") } },
     { "find_update", run_find_update, set_two_lanes, { RECORD, READ(one, W * N), READ(two, W * N), GIVES(first, "answer"), GIVES(second, "symbol"), GIVES(third, "amount") } },
     { "correct", run_correct, set_damaged, { RECORD, VALUE(LANES), WRITTEN(BYTES, one, W * N * LANES, "shares"), GIVES(first, "altered") } },
+    { "correct_listed", run_correct_listed, set_some_wrong, { RECORD, VALUE(LANES), READ(one, LISTED), READ(two, W * LISTED * LANES), WRITTEN(BYTES, three, W * K * LANES, "message"), WRITTEN(WORDS, first, LISTED, "wrong"), GIVES(second, "altered") } },
     { "mends", run_mends, set_one_damaged, { RECORD, READ(one, W * N), WRITTEN(BYTES, two, N, "nodes"), WRITTEN(BYTES, three, W * N, "symbols"), GIVES(first, "count") } },
     { "to_lanes", run_to_lanes, set_plain, { RECORD, VALUE(LANES), READ(one, W * N * LANES), WRITTEN(BYTES, two, W * N * LANES, "by_lane") } },
     { "to_nodes", run_to_nodes, set_plain, { RECORD, VALUE(LANES), READ(one, W * N * LANES), WRITTEN(BYTES, two, W * N * LANES, "by_node") } },
@@ -224,7 +240,7 @@ static const struct call calls[] = {
     { "carried_len", run_carried_len, set_carried_bytes, { RECORD, { LENGTH, NULL, CARRIED, NULL }, { SIZES, &lent.size, 0, "carried_len" } } },
     { "carry_in", run_carry_in, set_carried_bytes, { RECORD, READ(one, CARRIED), WRITTEN(BYTES, two, CARRYING, "symbols") } },
     { "carry_out", run_carry_out, set_carrying_symbols, { RECORD, READ(two, CARRYING), WRITTEN(BYTES, one, CARRIED, "bytes") } },
-    { "carry_change", run_carry_change, set_changed_bytes, { RECORD, { LENGTH, NULL, CARRIED, NULL }, { LENGTH, NULL, 7, NULL }, READ(one, 3), WRITTEN(BYTES, two, CARRYING, "symbols") } },
+    { "carry_change", run_carry_change, set_changed_bytes, { RECORD, { LENGTH, NULL, CARRIED, NULL }, { LENGTH, NULL, 9, NULL }, READ(one, 3), WRITTEN(BYTES, two, CARRYING, "symbols") } },
     { "choose", run_choose, NULL, { VALUE(N + 1), VALUE(K), WRITTEN(BYTES, one, BALANCED_RECORD, "record"), GIVES(first, "record_len") } },
     { "roster_start", run_start, NULL, { RECORD, WRITTEN(BYTES, one, BALANCED_ROSTER, "roster") } },
     { "roster_leave", run_leave, set_roster, { RECORD, WRITTEN(BYTES, one, BALANCED_ROSTER, "roster"), VALUE(LANE) } },

@@ -11,6 +11,7 @@ from carry import carried_len, carry_change, carry_in, carry_out
 from choose import choose
 from data import block, refused
 from differences import add_share, differences, update_lanes
+from listed import correct_listed
 from rearranged import listed_to_lanes, listed_to_nodes
 from roster import History
 from traces import repair_bits, repair_plan, repair_share
@@ -23,6 +24,7 @@ CALLS = {
     "update_lanes": ["lanes", "symbol", "lane", "before", "after", "shares"],
     "belongs": ["lanes", "shares"],
     "correct": ["lanes", "shares"],
+    "correct_listed": ["lanes", "nodes", "shares", "room", "room"],
     "recover": ["lanes", "nodes", "shares", "room"],
     "rebuild": ["lanes", "nodes", "shares", "target", "room"],
     "roster": [],
@@ -93,6 +95,9 @@ def answer(name, record, arguments):
     if name in ALTERERS:
         number, result = ALTERERS[name](record, *arguments)
         return refused(number) if number else f"altered {result[0]} shares{block(result[1])}"
+    if name == "correct_listed":
+        number, result = correct_listed(record, *arguments)
+        return refused(number) if number else f"altered {result[0]} message{block(result[1])} wrong" + "".join(f" {x}" for x in result[2])
     if name == "belongs":
         number, lane = belongs(record, *arguments)
         return f"refused {number}" if number else "yes" if lane is None else f"no, lane {lane}"

@@ -138,7 +138,7 @@ def show_carried():
     show("carry_in", number, ("symbols", symbols))
     number, back = carry_out(record, symbols, len(data))
     show("carry_out", number, ("bytes", back))
-    number, symbols = carry_change(record, len(data), 7, bytes(range(3)), symbols)
+    number, symbols = carry_change(record, len(data), 9, bytes(range(3)), symbols)
     show("carry_change", number, ("symbols", symbols))
     number, record = choose(N + 1, K, 7)
     show("choose", number, ("record", padded(record, 7)), ("record_len", [len(record)]))

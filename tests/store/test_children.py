@@ -131,7 +131,7 @@ class Children(StoreCase):
 
     def test_an_error_that_nobody_expects(self):
         """It reaches the parent as it is, and no child is left."""
-        with mock.patch.object(share, "checksum", side_effect=ZeroDivisionError("here")), self.assertRaisesRegex(ZeroDivisionError, "here"):
+        with mock.patch.object(share, "checksums", side_effect=ZeroDivisionError("here")), self.assertRaisesRegex(ZeroDivisionError, "here"):
             command("--store", self.store, "--threads", 4, "put", "image", self.file(self.data))
         with self.assertRaises(ChildProcessError):
             os.waitpid(-1, os.WNOHANG)

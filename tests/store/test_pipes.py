@@ -370,8 +370,14 @@ class Programs(PipeCase):
         self.ssh = ["sh", "-c", "exit 255", "sh"]
         status, out, _ = command("--json", "init", self.store, "--needed", 2, "--ssh", "sh -c 'exit 255'", "a:/x", "b:/x", "c:/x")
         self.assertEqual(status, 1)
-        self.assertIn("the connection to a:/x was lost (status 255)", json.loads(out)["error"])
+        self.assertIn("the connection to a:/x was lost (status 255: ssh itself ended)", json.loads(out)["error"])
         self.assertFalse(self.store.exists())
+
+    def test_a_host_without_the_program(self):
+        status, out, _ = command("--json", "init", self.store, "--needed", 2, "--ssh", " ".join(f"'{word}'" for word in pipes.HERE), "--program",
+                                 "/nowhere/imagestore", "a:/x", "b:/x", "c:/x")
+        self.assertEqual(status, 1)
+        self.assertIn("(status 127: is there a command /nowhere/imagestore? `program` in store.toml names it)", json.loads(out)["error"])
 
 
 if __name__ == "__main__":

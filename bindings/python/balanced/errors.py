@@ -81,7 +81,7 @@ class StaleError(Error):
 
 
 class FarError(Error):
-    number, name, text = 14, "far", "some lane has no word of the code within (n-k)/2 nodes"
+    number, name, text = 14, "far", "some lane has no word of the code within (n-k)/2 nodes, or (s-k)/2 of s listed ones"
 
 
 class AlreadyError(Error):

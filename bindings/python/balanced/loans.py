@@ -38,7 +38,7 @@ NO_BYTES = c_uint8()  # stands where a buffer has no bytes
 class Loan:
     """The bytes of an object: so many as `length`, from `address` on, until `end`. As a word of a call it is the address.
 
-    Bytes that can be written and stand in one piece are held by an object of ctypes, which takes a fifth of the time; others by a view.
+    Bytes that can be written and stand in one piece are held by an object of ctypes, which is quicker; others by a view.
     """
 
     __slots__ = ("_as_parameter_", "length", "written", "has_gaps", "_owner", "_held", "_view", "_copy")

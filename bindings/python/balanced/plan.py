@@ -11,6 +11,7 @@ from .calls import call
 from .carrying import Carrying
 from .changes import Changes
 from .findings import Finding, finding
+from .listed import Listed
 from .rearranged import Rearranged
 from .repairs import Repairs
 from .sizes import MAX_NODES, Into, node_list
@@ -21,7 +22,7 @@ if TYPE_CHECKING:
 
 
 @dataclass(frozen=True, init=False)
-class Plan(Changes, Carrying, Rearranged, Repairs):
+class Plan(Changes, Carrying, Listed, Rearranged, Repairs):
     """A record that was accepted, the plan that it stands for, and the calls on its blocks.
 
     A record is a buffer of bytes or a list of them; one that is not accepted raises an error from `KindError` to `RootError`.

@@ -60,6 +60,9 @@ CALLS: dict[str, tuple[Parameter, ...]] = {
     "rebuild": (RECORD, LANES, NODES, read("shares"), Number("target"), written("share")),
     "belongs": (RECORD, LANES, read("shares"), Result("first_wrong")),
     "correct": (RECORD, LANES, written("shares"), Result("altered")),
+    "correct_listed": (
+        RECORD, LANES, NODES, read("shares"), written("message"), written("wrong", c_uint32), Result("altered"),
+    ),
     "find_update": (RECORD, read("before"), read("after"), Result("answer"), Result("symbol"), Result("amount")),
     "mends": (RECORD, read("lane"), written("nodes"), written("symbols"), Result("count")),
     "to_lanes": (RECORD, LANES, read("by_node"), written("by_lane")),

@@ -1,8 +1,8 @@
 """How the bytes of an image become the symbols of messages, and which record a store of n nodes has.
 
-The library does both: `choose` has a record for every n from 2 to 255, and `carry_in` and `carry_out` take bytes to symbols
-and back, and `carry_change` changes bytes where they are carried. Where n divides 255 symbols are bytes. Else two bytes are a word, and a mask goes before each group of words
-(docs/SHARE-FILE.md).
+The library does both: `choose` has a record for every n from 2 to 255, `carry_in` and `carry_out` take bytes to symbols and back,
+and `carry_change` changes bytes where they are carried. Where n divides 255 symbols are bytes. Else two bytes are a word, and a mask
+goes before each group of words (docs/SHARE-FILE.md).
 """
 import balanced
 
@@ -54,8 +54,10 @@ def uncarry(plan, message, size):
 
 
 def change(plan, message, size, at, data):
-    """The message with the bytes from `at` on changed, of so many that it holds. A group of words keeps its mask while all of them are
-    symbols under it: a byte that changes changes one symbol then."""
+    """The message with the bytes from `at` on changed, of so many that it holds.
+
+    A group of words keeps its mask while all of them are symbols under it: a byte that changes changes one symbol then.
+    """
     changed = bytearray(message)
     plan.carry_change(memoryview(changed)[:plan.carried_len(size)], size, at, data)
     return changed

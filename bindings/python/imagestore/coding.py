@@ -36,18 +36,28 @@ def shares_of(plan, layout, batch, data, room):
     pieces, total, data, start = [[] for _ in range(plan.n)], 0, memoryview(data), layout.start(batch[0])
     for block in batch:
         at, size, lanes, count = layout.start(block) - start, layout.size(block), layout.lanes_of(block), layout.share_len(block)
-        part, block_seed = data[at:at + size], share.seed(block)
+        part = data[at:at + size]
         total += digest.of_block(block, part)
         shares = encode(plan, lanes, carrier.carry(plan, lanes, part), room, block - batch[0])
-        for node, piece in enumerate(pieces):
-            symbols = shares[node * count:(node + 1) * count]
-            piece += (symbols, share.checksum(block_seed, symbols))
+        rows = [shares[place:place + count] for place in range(0, plan.n * count, count)]
+        for piece, row, checksum in zip(pieces, rows, share.checksums(share.seed(block), rows)):
+            piece += (row, checksum)
     return pieces, total
 
 
 def listed(plan, lanes, parts, room=None):
-    """The shares of k listed nodes lane after lane, as the library takes them."""
-    return plan.listed_to_lanes(lanes, b"".join(parts), room and room.buffer("lanes", plan.message_len(lanes)))
+    """The shares of listed nodes lane after lane, as the library takes them: its calls move k of them, or all n."""
+    count = len(parts)
+    if count == plan.k:
+        return plan.listed_to_lanes(lanes, b"".join(parts), room and room.buffer("lanes", plan.message_len(lanes)))
+    if count == plan.n:
+        return plan.to_lanes(lanes, b"".join(parts))
+    width, step = plan.symbol_len, count * plan.symbol_len
+    by_lane = bytearray(step * lanes)
+    for i, part in enumerate(parts):
+        for byte in range(width):
+            by_lane[i * width + byte::step] = part[byte::width] if width > 1 else part
+    return by_lane
 
 
 def add(plan, difference, symbols):

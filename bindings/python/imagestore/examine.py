@@ -1,5 +1,5 @@
 """What is wrong with an image, from all blocks of all nodes that are here."""
-from . import carrier, coding, compare, digest, pipeline
+from . import carrier, compare, digest, pipeline
 from .family import Family
 from .reader import Reader
 
@@ -7,12 +7,12 @@ from .reader import Reader
 class Findings:
     """What is wrong: a sentence for each wrong node, and `doubts` where it cannot be told which node is wrong.
 
-    `untold` are the wrong nodes whose checksums are right, and `lost` are blocks that too few nodes have. `total` is the sum of
-    the blocks' digests, None where a block is unknown.
+    `untold` are the wrong nodes whose checksums are right, each with the blocks, and `lost` are blocks that too few nodes have.
+    `total` is the sum of the blocks' digests, None where a block is unknown.
     """
 
     def __init__(self, wrong=()):
-        self.wrong, self.untold, self.doubts, self.lost, self.total = dict(wrong), set(), [], [], 0
+        self.wrong, self.untold, self.doubts, self.lost, self.total = dict(wrong), {}, [], [], 0
 
     def doubt(self, sentence):
         self.doubts.append(sentence)
@@ -25,7 +25,8 @@ class Findings:
     def add(self, other):
         for node, why in other.wrong.items():
             self.wrong.setdefault(node, why)
-        self.untold |= other.untold
+        for node, blocks in other.untold.items():
+            self.untold.setdefault(node, set()).update(blocks)
         self.doubts += other.doubts
         self.lost += other.lost
         self.total = None if self.total is None or other.total is None else self.total + other.total
@@ -39,15 +40,14 @@ def examine_block(store, layout, block, held, found):
     plan, lanes = store.plan, layout.lanes_of(block)
     if len(held) < plan.k:
         return found.lose(f"block {block} is right at {len(held)} nodes, and {plan.k} are needed")
-    nodes = compare.wrong_nodes(plan, lanes, held)
-    if nodes is None:
+    settled = compare.settled(plan, lanes, held)
+    if settled is None:
         return found.doubt(f"the shares of block {block} do not agree, and which are wrong cannot be told")
+    message, nodes = settled
     for node in nodes:
-        found.untold.add(node)
+        found.untold.setdefault(node, set()).add(block)
         found.wrong.setdefault(node, f"block {block} is not that of the others, and its checksum is right")
     if found.total is not None:
-        right = [node for node in held if node not in nodes][:plan.k]
-        message = coding.recover(plan, lanes, {node: held[node] for node in right})
         found.total += digest.of_block(block, carrier.uncarry(plan, message, layout.size(block)))
     return None
 

@@ -19,9 +19,9 @@ def blocks_of(store, reader, batch, room):
     return parts, total
 
 
-def copy_out(store, session, seen, target, exclude=()):
+def copy_out(store, session, seen, target, untold=None):
     """Writes the image to a target; gives the reader, and whether the digest is that of the header."""
-    reader, layout, total, done = Reader(store, session, seen, exclude), seen.layout, 0, 0
+    reader, layout, total, done = Reader(store, session, seen, untold=untold), seen.layout, 0, 0
     room = coding.Room() if target.anywhere else None
 
     def work(batch):
@@ -42,7 +42,7 @@ def copy_out(store, session, seen, target, exclude=()):
 
 
 def read_right(store, session, seen, target):
-    """Reads the image; where every checksum is right and the image is not, once more without the nodes that are found wrong."""
+    """Reads the image; where every checksum is right and the image is not, once more without the blocks that are found wrong."""
     reader, right = copy_out(store, session, seen, target)
     wrong = {node: reader.said(node) for node in reader.faults}
     if right:

@@ -9,6 +9,7 @@ import os
 import signal
 from collections import deque
 from concurrent.futures import ThreadPoolExecutor
+from contextlib import closing
 from itertools import chain, islice
 from multiprocessing.connection import Pipe
 
@@ -39,14 +40,20 @@ def in_order(function, items, count, family=None):
     first = list(islice(items, count))
     count, items = len(first), chain(first, items)
     if count < 2:
-        results = map(function, items)
+        results = one_by_one(function, items)
     elif family and family.can_part():
         results = by_children(function, items, count, family)
     else:
         results = by_threads(function, items, count)
-    for result in results:
-        yield result
-        interrupts.point()
+    with closing(results):  # whatever ends it, nobody works on
+        for result in results:
+            yield result
+            interrupts.point()
+
+
+def one_by_one(function, items):
+    for item in items:
+        yield function(item)
 
 
 def by_threads(function, items, count):
@@ -68,13 +75,13 @@ def by_children(function, items, count, family):
     """The children have the items by turns, each two of them at a time, so that none waits for its parent."""
     children, waiting = [], deque()
     try:
-        for _ in range(count):
-            children.append(Child(function, family, children))
         for i, item in enumerate(items):
-            child = children[i % len(children)]
+            if i < count:
+                children.append(Child(function, family, children))
+            child = children[i % count]
             child.give(item)
             waiting.append(child)
-            if len(waiting) == 2 * len(children):
+            if len(waiting) == 2 * count:
                 yield waiting.popleft().result(family)
         while waiting:
             yield waiting.popleft().result(family)

@@ -6,12 +6,15 @@ from .frames import Request
 
 
 class Reader:
-    """Reads the blocks of one image. `faults` says which nodes failed, with the blocks; more than one thread may read."""
+    """Reads the blocks of one image. `faults` says which nodes failed, with the blocks; more than one thread may read.
 
-    def __init__(self, store, session, seen, exclude=()):
+    Nodes that are excluded are not asked. `untold` has the blocks of nodes that are wrong although their checksums are right.
+    """
+
+    def __init__(self, store, session, seen, exclude=(), untold=None):
         self.store, self.session, self.layout = store, session, seen.layout
         self.nodes = [node for node in seen.holders() if node not in exclude]
-        self.suspects, self.faults = {node for node in seen.faults}, {}
+        self.suspects, self.untold, self.faults = {node for node in seen.faults}, untold or {}, {}
 
     def order(self):
         """The nodes, those that answer fastest first and those with known faults last."""
@@ -21,8 +24,8 @@ class Reader:
 
     def sound(self, batch):
         """The nodes of which nothing wrong is known in a batch, in order."""
-        return [node for node in sorted(self.order())
-                if node not in self.suspects and not self.faults.get(node, set()) & set(batch)]
+        return [node for node in sorted(self.order()) if node not in self.suspects
+                and not self.faults.get(node, set()) & set(batch) and not self.untold.get(node, set()) & set(batch)]
 
     def fetch(self, batch, nodes):
         """For each block of a batch its share at those of the nodes that have it right."""
@@ -31,8 +34,10 @@ class Reader:
         answers = self.session.try_ask(nodes, lambda node: Request(frames.READ, self.layout.name, place, count))
         held, cuts = {block: {} for block in batch}, coding.spans(self.layout, batch)
         for node, data in answers.items():
-            right = coding.blocks_in(self.store.plan, data, cuts)
+            right, untold = coding.blocks_in(self.store.plan, data, cuts), self.untold.get(node, ())
             for block in batch:
+                if block in untold:
+                    continue
                 if block in right:
                     held[block][node] = right[block]
                 else:

@@ -57,9 +57,9 @@ def send(store, session, reader, target, jobs, whole):
     return None if total is None else digest.to_bytes(total)
 
 
-def attempt(store, session, seen, target, jobs, wrong, whole):
-    """Makes the target's share of an image anew, from nodes that are not wrong; gives the reader, None where the image was not right."""
-    reader = Reader(store, session, seen, exclude={target, *wrong})
+def attempt(store, session, seen, target, jobs, untold, whole):
+    """Makes the target's share of an image anew, without blocks that are wrong; gives the reader, None where the image was not right."""
+    reader = Reader(store, session, seen, exclude={target}, untold=untold)
     with twophase.dropped_on_failure(session, seen.name, [target]):
         session.ask([target], lambda node: Request(frames.BEGIN, seen.name))
         if seen.exists and send(store, session, reader, target, jobs, whole) not in (None, seen.header.digest):
@@ -70,9 +70,9 @@ def attempt(store, session, seen, target, jobs, wrong, whole):
     return reader
 
 
-def rebuild_image(store, session, seen, target, jobs, wrong=(), whole=False):
-    """As `attempt`; where a node's checksums are right and its content is not, once more without the nodes that are found wrong."""
-    reader = attempt(store, session, seen, target, jobs, wrong, whole)
+def rebuild_image(store, session, seen, target, jobs, untold=None, whole=False):
+    """As `attempt`; where a node's checksums are right and its content is not, once more without the blocks that are found wrong."""
+    reader = attempt(store, session, seen, target, jobs, untold, whole)
     if reader is None:
         found = examine(store, session, seen)
         reader = attempt(store, session, seen, target, jobs, found.untold, whole) if found.untold and not found.doubts else None

@@ -34,6 +34,7 @@ class PipeLink(Link):
 
     def __init__(self, place, ssh, program):
         super().__init__(place)
+        self.hints = {127: f": is there a command {program}? `program` in store.toml names it", 255: ": ssh itself ended"}
         host, _, folder = place.partition(":")
         command = [*ssh, host, f"{program} serve {shlex.quote(folder)}"]
         # a session of its own: Ctrl-C reaches this program alone, which then tells the nodes
@@ -56,7 +57,7 @@ class PipeLink(Link):
     def lost(self):
         self.process.kill()
         status = self.process.wait()
-        return f"the connection to {self.place} was lost" + (f" (status {status})" if status > 0 else "")
+        return f"the connection to {self.place} was lost" + (f" (status {status}{self.hints.get(status, '')})" if status > 0 else "")
 
     def _close(self):
         for pipe in (self.process.stdin, self.process.stdout):

@@ -119,6 +119,11 @@ def checksum(block_seed, symbols):
     return zlib.crc32(symbols, block_seed).to_bytes(4, "big")
 
 
+def checksums(block_seed, rows):
+    """As `checksum`, of each of some nodes' shares of a block."""
+    return [zlib.crc32(row, block_seed).to_bytes(4, "big") for row in rows]
+
+
 def block_place(record, name, lanes, block):
     """Where a block begins in the share file."""
     return header_len(record, name) + block * (lanes * symbol_len(record) + CHECKSUM.size)

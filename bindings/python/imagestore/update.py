@@ -21,10 +21,10 @@ def begin(session, name, nodes):
 def see_agreement(store, session, reader, block, held, able):
     """Sees that all nodes agree on a block before it is changed: what is made from a wrong share would be wrong at other nodes too."""
     held = {**held, **reader.fetch([block], [node for node in able if node not in held])[block]}
-    wrong = compare.wrong_nodes(store.plan, reader.layout.lanes_of(block), held)
-    if wrong is None:
+    settled = compare.settled(store.plan, reader.layout.lanes_of(block), held)
+    if settled is None:
         raise StoreError(f"{reader.layout.name}: the shares of block {block} do not agree, and which are wrong cannot be told")
-    why = {node: f"block {block} is not that of the others, and its checksum is right" for node in wrong}
+    why = {node: f"block {block} is not that of the others, and its checksum is right" for node in settled[1]}
     for node, sentence in why.items():
         session.fail(node, sentence)
     if why:

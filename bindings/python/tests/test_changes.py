@@ -34,7 +34,7 @@ class Changes(CallCase):
             run = [known.symbols(shares)[t * plan.n:(t + 1) * plan.n] for t in range(first, lanes)][:random.randrange(4)]
             old = spoilt(random, known, known.bytes([known.message(lane)[symbol] for lane in run]))
             new = spoilt(random, known, symbols(random, known, len(run)))
-            shares = altered(random, known, shares, 1) if random.random() < 0.1 else spoilt(random, known, shares)
+            shares = altered(random, known, shares, lanes) if random.random() < 0.3 else spoilt(random, known, shares)
             given = lanes, sometimes(random, plan.k, symbol), first, sometimes(random, new, old), new
             self.same_changed(differences.update_lanes(record, *given, shares), plan.update_lanes, *given, bytearray(shares))
         self.met(0, 8, 9, 11, 12, 13)

@@ -41,7 +41,7 @@ pub enum Error {
     Word = 12,
     /// The message of that lane holds another symbol than the old one.
     Stale = 13,
-    /// Some lane has no word of the code within (n−k)/2 nodes.
+    /// Some lane has no word of the code within (n−k)/2 nodes, or (s−k)/2 of s listed ones.
     Far = 14,
     /// The node already is what the event says: absent, or present.
     Already = 15,
@@ -126,7 +126,7 @@ impl Error {
             Error::Symbol => "a number that the call reads as a symbol is p or more, in kind 2 above 255",
             Error::Word => "the lane that an update is to change is no word of the code",
             Error::Stale => "the message of that lane holds another symbol than the old one",
-            Error::Far => "some lane has no word of the code within (n-k)/2 nodes",
+            Error::Far => "some lane has no word of the code within (n-k)/2 nodes, or (s-k)/2 of s listed ones",
             Error::Already => "the node already is what the event says: absent, or present",
             Error::Many => "there are more than 65,536 messages",
             Error::Traces => "the record has no repair by traces with so many nodes missing",

@@ -152,6 +152,21 @@ extern "C" {
         altered: *mut u32,
     ) -> u8;
 
+    pub fn balanced_correct_listed(
+        record: *const u8,
+        record_len: usize,
+        lanes: u32,
+        nodes: *const u8,
+        nodes_len: usize,
+        shares: *const u8,
+        shares_len: usize,
+        message: *mut u8,
+        message_len: usize,
+        wrong: *mut u32,
+        wrong_len: usize,
+        altered: *mut u32,
+    ) -> u8;
+
     pub fn balanced_to_lanes(
         record: *const u8,
         record_len: usize,

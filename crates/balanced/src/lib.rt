@@ -5,6 +5,7 @@ pub use belongs::block_belongs;
 pub use carry::{carried_len, carry_change, carry_in, carry_out};
 pub use choose::choose_record;
 pub use correct::correct_block;
+pub use correct_listed::correct_listed;
 pub use differences::{add_share, differences};
 pub use encode::encode_block;
 pub use find_update::{Finding, find_update};

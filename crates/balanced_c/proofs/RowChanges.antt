@@ -36,10 +36,10 @@ module _ (rec : List ℕ) (l symbol first : ℕ) (old new shares : List ℕ) (al
 
   pub update_lanes_gives : (altered' r : ℕ) → r ≡ fault_in a → altered' ≡ result_unwrap_or a altered → RunSays rec l symbol first old new shares shares' a → UpdateLanesGives rec l symbol first old new shares altered shares' altered' r
   update_lanes_gives altered' r e v says =
-      let number : r ≡ run_number = e ∙ ap fault_in says.promise.answer ∙ answer_number run_number count in
-      let value : altered' ≡ pick (eqb run_number 0) count altered = v ∙ ap (λ (x : Answer ℕ). result_unwrap_or x altered) says.promise.answer ∙ counted_value count altered run_number in
+      let number : r ≡ run_number = e ∙ ap fault_in says.promise.answered ∙ answer_number run_number count in
+      let value : altered' ≡ pick (eqb run_number 0) count altered = v ∙ ap (λ (x : Answer ℕ). result_unwrap_or x altered) says.promise.answered ∙ counted_value count altered run_number in
       record {
         number = number;
-        says = record { promise = record { answer = ap₂ answer_of number value ∙ counted_again count altered run_number; written = says.promise.written } };
+        says = record { promise = record { answered = ap₂ answer_of number value ∙ counted_again count altered run_number; written = says.promise.written } };
         altered_is = rw number (value ∙ handed run_number altered (λ none. run_symbols_differ (header_of rec) l symbol first old new shares shares' (rw none at says.promise.written)));
       }

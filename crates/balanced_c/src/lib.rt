@@ -20,7 +20,7 @@ pub use bytes_carried::{
     balanced_choose,
 };
 pub use changes::{balanced_add_share, balanced_differences, balanced_update_lanes};
-pub use correction::balanced_correct;
+pub use correction::{balanced_correct, balanced_correct_listed};
 use generator::Refusal;
 pub use one_lane::{balanced_find_update, balanced_mends};
 pub use rearranging::{

@@ -5,7 +5,7 @@
 ghost use Rattle.std.specs.Prelude.{◌≡◌};
 ghost use Rattle.balanced_c.specs.Calls.{PlanGives, EncodeGives, UpdateGives, RecoverGives, RebuildGives, BelongsGives, WeightsGive, ToLanesGives, ToNodesGives, ListedToLanesGives, ListedToNodesGives};
 ghost use Rattle.balanced_c.specs.RowChanges.{DifferencesGives, AddGives, UpdateLanesGives};
-ghost use Rattle.balanced_c.specs.Corrections.{CorrectGives};
+ghost use Rattle.balanced_c.specs.Corrections.{CorrectGives, CorrectListedGives};
 ghost use Rattle.balanced_c.specs.Lanes.{FindGives, MendsGive};
 ghost use Rattle.balanced_c.specs.Repairs.{RepairPlanGives, RepairBitsGives, RepairShareGives};
 ghost use Rattle.balanced_c.specs.BytesCarried.{CarriedLenGives, CarryInGives, CarryOutGives, CarryChangeGives, ChooseGives};
@@ -210,6 +210,23 @@ pub extern "C" fn balanced_correct(
     ensures { CorrectGives rec.now lanes shares.old altered.old shares.new altered.new result }
 {
     balanced_c::balanced_correct(rec, lanes, shares, altered)
+}
+
+// In each lane the message nearest to the listed symbols; `wrong` receives for each place of the list in how many lanes it was wrong, and
+// `altered` the sum of these.
+#[unsafe(no_mangle)]
+pub extern "C" fn balanced_correct_listed(
+    rec: &[u8],
+    lanes: u32,
+    nodes: &[u8],
+    shares: &[u8],
+    message: &mut [u8],
+    wrong: &mut [u32],
+    altered: &mut u32,
+) -> u8
+    ensures { CorrectListedGives rec.now lanes nodes.now shares.now message.old wrong.old altered.old message.new wrong.new altered.new result }
+{
+    balanced_c::balanced_correct_listed(rec, lanes, nodes, shares, message, wrong, altered)
 }
 
 // Which update it was: `answer` receives 0 where the lanes are equal, 1 where an update was found and 2 where there is none; `symbol` and `amount` receive what was found, and 0 otherwise.

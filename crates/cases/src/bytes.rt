@@ -41,7 +41,9 @@ pub fn carry_change(words: &mut Words) -> Result<String, Fault> {
     let count = words.number("count")?;
     let at = words.number("at")?;
     let bytes = words.bytes("bytes")?;
-    let (answer, after, kept) = lend(words, "symbols", |symbols| {
+    let symbols = words.bytes("symbols")?;
+    words.end()?;
+    let (answer, after, kept) = lend(symbols, |symbols| {
         balanced::carry_change(&record, count as usize, at as usize, &bytes, symbols)
     })?;
     done(words.alloc(), answer, &after, kept)

@@ -1,6 +1,6 @@
 // The calls by their names.
 use crate::arranging::arrange;
-use crate::{block_calls, bytes, repairs, shares};
+use crate::{block_calls, bytes, listed, repairs, shares};
 use balanced::Roster;
 use std::alloc::Global;
 use test_calls::{counts, lanes, plans, rosters};
@@ -34,6 +34,7 @@ pub fn call(alloc: Global, line: &str, roster: &mut Roster) -> Result<String, Fa
         "update_lanes" => shares::update_lanes(words),
         "belongs" => shares::belongs(words),
         "correct" => shares::correct(words),
+        "correct_listed" => listed::correct(words),
         "add_share" => shares::add_share(words),
         "repair_bits" => repairs::bits(words),
         "repair_share" => repairs::share(words),

@@ -14,6 +14,7 @@ mod block_calls;
 mod block_words;
 mod bytes;
 mod calls;
+mod listed;
 mod repairs;
 mod shares;
 

@@ -13,17 +13,15 @@ fn last_shares(words: &mut Words) -> Result<Vec<u8>, Fault> {
     Ok(shares)
 }
 
-// Lends what the last word gives, shares or symbols, to a call that may change it: its answer, the bytes afterwards, and whether they are as they were.
-// A struct of these three would be made here and taken apart at once in both callers, `let Lent { answer, after, kept } = lend(words, word, call)?`.
+// Lends the bytes of a line's last word, shares or symbols, to a call that may change them: its answer, the bytes afterwards, and whether they
+// are as they were. A struct of these three would be made here and taken apart at once in its callers,
+// `let Lent { answer, after, kept } = lend(before, call)?`.
 pub fn lend<T: Copy, F: FnOnce(&mut [u8]) -> Result<T, Refusal>>(
-    words: &mut Words,
-    word: &'static str,
+    before: Vec<u8>,
     call: F,
 ) -> Result<(Result<T, Refusal>, Vec<u8>, bool), Fault>
     requires { F.IsAlwaysCallable call }
 {
-    let before = words.bytes(word)?;
-    words.end()?;
     let mut after = before.clone()?;
     let answer = call(&mut after);
     let kept = after == before;
@@ -37,7 +35,7 @@ fn altered<F: FnOnce(&mut [u8]) -> Result<u32, Refusal>>(
 ) -> Result<String, Fault>
     requires { F.IsAlwaysCallable call }
 {
-    let (answer, after, kept) = lend(words, "shares", call)?;
+    let (answer, after, kept) = lend(last_shares(words)?, call)?;
     match answer {
         Ok(count) => Ok(format!(in words.alloc(); "altered {count} shares{}", List(&after))?),
         Err(refusal) => turned_away(words.alloc(), refusal, kept),
@@ -93,7 +91,7 @@ pub fn belongs(words: &mut Words) -> Result<String, Fault> {
 pub fn add_share(words: &mut Words) -> Result<String, Fault> {
     let (record, lanes) = block(words)?;
     let difference = words.bytes("symbols")?;
-    let (answer, after, kept) = lend(words, "shares", |share| {
+    let (answer, after, kept) = lend(last_shares(words)?, |share| {
         balanced::add_share(&record, lanes, &difference, share)
     })?;
     done(words.alloc(), answer, &after, kept)

@@ -23,7 +23,7 @@ use Rattle.encode.specs.Promise.{EncodeSays}
 use Rattle.recover.specs.Promise.{RecoverSays}
 use Rattle.carrying.specs.Groups.{group_count}
 use Rattle.lists.specs.Choice.{pick}
-use Rattle.carrying.specs.Carrying.{carries_none, group_words, word_count, words_length, bytes_back, carried_length}
+use Rattle.carrying.specs.Carrying.{carries_none, group_words, word_count, words_length, bytes_back as bytes_read, carried_length}
 use Rattle.carrying.specs.Changing.{part_replaced}
 use Rattle.carry.specs.Promise.{long_bad, carried_len_fault, part_bad, carry_in_fault, carry_out_fault, carry_change_fault, CarriedLenSays, CarryInSays, CarryOutSays, CarryChangeSays}
 use Rattle.carry.proofs.Back.{carries, carries_changed, one_changed}
@@ -214,8 +214,8 @@ module _ (rec : List ℕ) where
       changed_back before before' room room' r many first fits second =
           let p = modulus_of hd in
           let zero = done_is _ _ first.promise.answered in
-          let was : before' ≡ bytes_back p n symbols =
-          first.promise.written ∙ ap (λ (f : ℕ). pick (eqb f 0) (bytes_back p (length before) symbols) before) zero ∙ ap (λ (m : ℕ). bytes_back p m symbols) many in
+          let was : before' ≡ bytes_read p n symbols =
+          first.promise.written ∙ ap (λ (f : ℕ). pick (eqb f 0) (bytes_read p (length before) symbols) before) zero ∙ ap (λ (m : ℕ). bytes_read p m symbols) many in
           let (done, is) = (carries_changed rec n at bytes symbols symbols' low says).back room room' r fits second in
           (done, is ∙ ap (part_replaced at bytes) (sym was))
 

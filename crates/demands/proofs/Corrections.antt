@@ -55,7 +55,7 @@ use Rattle.correct.proofs.Meaning.{far_apart, one_near, has_near_lem, none_near,
 use Rattle.correct.proofs.Turned.{far_turned, corrected_turned, count_turned}
 
 -- lengths and symbols that pass
-length_passes : (stated long : ℕ) → long ≡ stated → length_bad stated long ≡ false
+pub length_passes : (stated long : ℕ) → long ≡ stated → length_bad stated long ≡ false
 unfolding length_bad
 length_passes stated long e = ap not (eq-eqb long stated e)
 

@@ -7,6 +7,7 @@ use Rattle.generator.proofs.Pinned.{pinned}
 use Rattle.generator.proofs.SchemeOf.{our_scheme, scheme_least}
 use Rattle.demands.proofs.LaneAfterLane.{lane_after_lane_lem}
 use Rattle.demands.proofs.Corrections.{corrections}
+use Rattle.demands.proofs.ListedCorrections.{listed_corrections}
 use Rattle.demands.specs.Demands.{Demands}
 use Rattle.demands.proofs.FieldLaws.{field_laws}
 use Rattle.demands.proofs.Refusals.{refusals}
@@ -54,6 +55,7 @@ demands =
       tables = tables;
       findings = findings;
       corrections = corrections;
+      listed = listed_corrections;
       rosters = rosters;
       lanes = lane_after_lane_lem;
       bad_reads = bad_reads;

@@ -30,26 +30,27 @@ use Rattle.blocks.specs.Bytes.{wrong_lane}
 use Rattle.blocks.proofs.Words.{wrong_most}
 use Rattle.plan.specs.Plans.{plan_of, plan_for}
 use Rattle.correct.specs.Promise.{correct_fault}
+use Rattle.correct_listed.specs.Promise.{correct_listed_fault}
 use Rattle.find_update.specs.Promise.{find_fault}
 use Rattle.find_update.proofs.Accepts.{find_accepts}
 use Rattle.find_update.proofs.Meaning.{finds}
 use Rattle.mends.specs.Promise.{mends_fault}
 use Rattle.weight_counts.specs.Weights.{weights_fault}
 use Rattle.balanced_c.specs.Calls.{plan_room_fault, numbers_of, PlanGives, EncodeGives, UpdateGives, RecoverGives, RebuildGives, BelongsGives, RearrangeGives, WeightsGive}
-use Rattle.balanced_c.specs.Corrections.{CorrectGives}
+use Rattle.balanced_c.specs.Corrections.{CorrectGives, CorrectListedGives}
 use Rattle.balanced_c.specs.RowChanges.{DifferencesGives, AddGives, UpdateLanesGives}
 use Rattle.balanced_c.specs.Lanes.{found_in, FindGives, MendsGive}
 use Rattle.demands.specs.Calls.{read, AllWords, SmallestWrong}
 use Rattle.demands.specs.Findings.{InNumbers}
 use Rattle.demands.specs.Judging.{Judged, Returns}
-use Rattle.demands.specs.Numbers.{record_numbers, encode_numbers, update_numbers, run_numbers, recover_numbers, rebuild_numbers, belongs_numbers, correct_numbers, rearrange_numbers, differences_numbers, add_numbers, find_numbers, mends_numbers, weights_numbers}
+use Rattle.demands.specs.Numbers.{record_numbers, encode_numbers, update_numbers, run_numbers, recover_numbers, rebuild_numbers, belongs_numbers, correct_numbers, correct_listed_numbers, rearrange_numbers, differences_numbers, add_numbers, find_numbers, mends_numbers, weights_numbers}
 use Rattle.demands.specs.Interface.{plan_numbers, PlanWritten, Interface}
 use Rattle.demands.proofs.Judging.{Tells, line, last, by_number}
 use Rattle.demands.proofs.Conditions.{other_test}
 use Rattle.demands.proofs.Calls.{rows_are}
 use Rattle.demands.proofs.Coding.{code_demands}
 use Rattle.demands.proofs.Findings.{in_numbers}
-use Rattle.demands.proofs.Numbers.{own_after, encode_tells, update_tells, recover_tells, rebuild_tells, belongs_tells, correct_tells, rearrange_tells, differences_tells, add_tells, find_tells, mends_tells, weights_tells}
+use Rattle.demands.proofs.Numbers.{own_after, encode_tells, update_tells, recover_tells, rebuild_tells, belongs_tells, correct_tells, correct_listed_tells, rearrange_tells, differences_tells, add_tells, find_tells, mends_tells, weights_tells}
 use Rattle.demands.proofs.RunNumbers.{run_tells}
 
 -- four lengths under one number
@@ -116,6 +117,11 @@ module _ (rec : List ℕ) where
       rebuild target share share' r g =
           by_number g.number (own_after rec _ (λ h. rebuild_fault h l nodes shares target (length share)) refl (λ none. rebuild_tells h l nodes shares target (length share)))
           (λ some. rw (← g.number, ne_eqb r 0 some) at g.says.promise.written)
+
+      correct_listed : (out wrong : List ℕ) (altered : ℕ) (out' wrong' : List ℕ) (altered' r : ℕ) → CorrectListedGives rec l nodes shares out wrong altered out' wrong' altered' r → Judged (record_numbers rec ++ correct_listed_numbers h l nodes shares (length out) (length wrong)) (Returns r) ((out' ≡ out) × (wrong' ≡ wrong) × (altered' ≡ altered))
+      correct_listed out wrong altered out' wrong' altered' r g =
+          by_number g.number (own_after rec _ (λ h. correct_listed_fault share_layout h l nodes shares (length out) (length wrong)) refl (λ none. correct_listed_tells h l nodes shares (length out) (length wrong) (faultless_sound rec none)))
+          (λ some. (rw (← g.number, ne_eqb r 0 some) at g.says.promise.written, rw (← g.number, ne_eqb r 0 some) at g.says.promise.counted, rw (ne_eqb r 0 some) at g.altered_is))
 
     module _ (shares : List ℕ) where
       belongs : (first first' r : ℕ) → BelongsGives rec l shares first first' r → Judged (record_numbers rec ++ belongs_numbers h l shares) (Returns r) (first' ≡ first)
@@ -193,6 +199,7 @@ interface =
       belongs = belongs;
       belongs_done = belongs_done;
       correct = correct;
+      correct_listed = correct_listed;
       into_lanes = λ rec l. rearrange rec l (λ h. h.n);
       into_nodes = λ rec l. rearrange rec l (λ h. h.n);
       listed_to_lanes = λ rec l. rearrange rec l (λ h. h.k);

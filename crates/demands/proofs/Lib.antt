@@ -29,6 +29,8 @@ pub mod TurnedSymbols
 pub mod TurnedBytes
 pub mod LaneAfterLane
 pub mod Corrections
+pub mod ListedLanes
+pub mod ListedCorrections
 pub mod FaultsAgreement
 pub mod Changes
 pub mod Rebuilding

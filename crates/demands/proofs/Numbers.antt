@@ -1,6 +1,6 @@
 -- The numbers of each call: what turns it away is the lowest number of its table that is met.
 use mathlib.Core.Path.{◌≡◌, refl, ap}
-use mathlib.Core.Logic.{◌↔◌, ◌≢◌}
+use mathlib.Core.Logic.{◌⊎◌, ◌↔◌, ◌≢◌}
 use mathlib.Core.Bool.{true, false, not}
 use mathlib.Core.List.{List, ◌++◌}
 use Prim.Native.Nat.{ℕ, ◌+◌, ◌*◌, ◌^◌, ◌≤◌, ◌<◌}
@@ -29,15 +29,18 @@ use Rattle.correct.specs.Blocks.{far_bad}
 use Rattle.correct.specs.Promise.{correct_fault}
 use Rattle.correct.specs.Meaning.{NearWord, lane_in}
 use Rattle.correct.proofs.Meaning.{has_near_lem, none_near, one_far, far_not}
+use Rattle.correct_listed.specs.Blocks.{far_listed_bad}
+use Rattle.correct_listed.specs.Promise.{count_bad, listed_fault, correct_listed_fault}
 use Rattle.find_update.specs.Promise.{find_fault}
 use Rattle.mends.specs.Promise.{mends_fault}
 use Rattle.weight_counts.specs.Weights.{messages_bad, weights_fault}
 use Rattle.demands.specs.Judging.{Table}
-use Rattle.demands.specs.Numbers.{SomeFrom, SomeTwice, record_numbers, OtherLanes, OtherSymbols, encode_numbers, given_numbers, stale_numbers, update_numbers, recover_numbers, rebuild_numbers, belongs_numbers, correct_numbers, rearrange_numbers, differences_numbers, add_numbers, find_numbers, mends_numbers, weights_numbers}
+use Rattle.demands.specs.Numbers.{SomeFrom, SomeTwice, record_numbers, OtherLanes, OtherSymbols, encode_numbers, given_numbers, stale_numbers, update_numbers, recover_numbers, rebuild_numbers, belongs_numbers, correct_numbers, listed_numbers, correct_listed_numbers, rearrange_numbers, differences_numbers, add_numbers, find_numbers, mends_numbers, weights_numbers}
 use Rattle.demands.proofs.Judging.{Tells, all_from, line, last, then}
 use Rattle.demands.proofs.Conditions.{equal_test, other_test, less_test, most_test, or_test, some_from, some_twice}
 use Rattle.demands.proofs.RecordNumbers.{after_record}
 use Rattle.demands.proofs.Updates.{stale_tells}
+use Rattle.demands.proofs.ListedLanes.{far_listed_means}
 
 -- the tests of the numbers that several calls share
 pub lanes_means : (l : ℕ) → (lanes_bad l ≡ true) ↔ OtherLanes l
@@ -212,3 +215,25 @@ module _ (h : Header) (s : Sound h) (l : ℕ) (shares : List ℕ) where
   pub correct_tells : Tells (correct_numbers h l shares) (correct_fault share_layout h l shares)
   unfolding correct_fault
   correct_tells = then 11 (belongs_numbers h l shares) _ refl refl (belongs_tells h l shares) (λ none. last 13 (far_bad share_layout h l shares) (far_means none))
+
+-- listed shares: where numbers 7 to 11 are not met, a lane that no message is near
+module _ (h : Header) (l : ℕ) (nodes shares : List ℕ) (out counts : ℕ) where
+  count_means : (count_bad h (length nodes) ≡ true) ↔ ((length nodes < h.k) ⊎ (h.n < length nodes))
+  unfolding count_bad
+  count_means = or_test (ltb (length nodes) h.k) (ltb h.n (length nodes)) (less_test (length nodes) h.k) (less_test h.n (length nodes))
+
+  listed_tells : Tells (listed_numbers h l nodes shares out counts) (listed_fault h l nodes shares out counts)
+  unfolding listed_fault list_fault
+  listed_tells =
+      line 6 (lanes_bad l) refl (lanes_means l)
+      (λ _. line 7 (count_bad h (length nodes)) refl count_means
+      (λ _. line 7 (length_bad (length nodes * l * width h) (length shares)) refl (length_means _ _)
+      (λ _. line 7 (length_bad (h.k * l * width h) out) refl (length_means _ _)
+      (λ _. line 7 (length_bad (length nodes) counts) refl (length_means _ _)
+      (λ _. line 8 (nodes_bad h nodes) refl (nodes_mean h nodes)
+      (λ _. line 9 (twice_bad nodes) refl (twice_means h nodes)
+      (λ _. last 10 (symbols_bad h shares) (symbols_mean h shares))))))))
+
+  pub correct_listed_tells : Sound h → Tells (correct_listed_numbers h l nodes shares out counts) (correct_listed_fault share_layout h l nodes shares out counts)
+  unfolding correct_listed_fault
+  correct_listed_tells s = then 11 (listed_numbers h l nodes shares out counts) _ refl refl listed_tells (λ none. last 13 (far_listed_bad share_layout h nodes l shares) (far_listed_means h s l nodes shares out counts none))

@@ -19,15 +19,16 @@ use Rattle.encode.specs.Promise.{encode_fault, EncodeSays}
 use Rattle.rearrange.specs.Promise.{RearrangeSays, rearrange_fault}
 use Rattle.differences.specs.Promise.{differences_fault, add_fault, DifferencesSays, AddSays}
 use Rattle.correct.specs.Promise.{correct_fault, CorrectSays}
+use Rattle.correct_listed.specs.Promise.{correct_listed_fault, CorrectListedSays}
 use Rattle.find_update.specs.declared.Finding.{Finding}
 use Rattle.find_update.specs.Promise.{find_fault, FindSays}
 use Rattle.mends.specs.Promise.{mends_fault, MendsSay}
 use Rattle.weight_counts.specs.Weights.{weights_fault, WeightsSay}
 use Rattle.demands.specs.Judging.{Table, Judged}
-use Rattle.demands.specs.Numbers.{record_numbers, encode_numbers, update_numbers, run_numbers, recover_numbers, rebuild_numbers, belongs_numbers, correct_numbers, rearrange_numbers, differences_numbers, add_numbers, find_numbers, mends_numbers, weights_numbers}
+use Rattle.demands.specs.Numbers.{record_numbers, encode_numbers, update_numbers, run_numbers, recover_numbers, rebuild_numbers, belongs_numbers, correct_numbers, correct_listed_numbers, rearrange_numbers, differences_numbers, add_numbers, find_numbers, mends_numbers, weights_numbers}
 use Rattle.demands.specs.Refusals.{Refusals}
 use Rattle.demands.proofs.Judging.{Tells, call_judged, by_answer}
-use Rattle.demands.proofs.Numbers.{own_after, encode_tells, update_tells, recover_tells, rebuild_tells, belongs_tells, correct_tells, rearrange_tells, differences_tells, add_tells, find_tells, mends_tells, weights_tells}
+use Rattle.demands.proofs.Numbers.{own_after, encode_tells, update_tells, recover_tells, rebuild_tells, belongs_tells, correct_tells, correct_listed_tells, rearrange_tells, differences_tells, add_tells, find_tells, mends_tells, weights_tells}
 use Rattle.demands.proofs.RunNumbers.{run_tells}
 
 -- a call that answers by its number
@@ -64,6 +65,11 @@ module _ (rec : List ℕ) where
       rebuild target out out' r says =
           by_outcome _ (own_after rec _ (λ h. rebuild_fault h l nodes shares target (length out)) refl (λ none. rebuild_tells h l nodes shares target (length out))) says.promise.answered
           (λ some. rw (ne_eqb _ 0 some) at says.promise.written)
+
+      correct_listed : (out out' wrong wrong' : List ℕ) (r : Answer ℕ) → CorrectListedSays rec l nodes shares out out' wrong wrong' r → Judged (record_numbers rec ++ correct_listed_numbers h l nodes shares (length out) (length wrong)) (λ f. r ≡ Err f) ((out' ≡ out) × (wrong' ≡ wrong))
+      correct_listed out out' wrong wrong' r says =
+          by_outcome _ (own_after rec _ (λ h. correct_listed_fault share_layout h l nodes shares (length out) (length wrong)) refl (λ none. correct_listed_tells h l nodes shares (length out) (length wrong) (faultless_sound rec none))) says.promise.answered
+          (λ some. (rw (ne_eqb _ 0 some) at says.promise.written, rw (ne_eqb _ 0 some) at says.promise.counted))
 
     module _ (shares : List ℕ) where
       belongs : (r : Answer (Option ℕ)) → BelongsSays rec l shares r → Judged (record_numbers rec ++ belongs_numbers h l shares) (λ f. r ≡ Err f) (Unit {0})
@@ -113,6 +119,7 @@ refusals =
       rebuild = rebuild;
       belongs = belongs;
       correct = correct;
+      correct_listed = correct_listed;
       into_lanes = λ rec l. rearrange rec l (λ h. h.n);
       into_nodes = λ rec l. rearrange rec l (λ h. h.n);
       listed_to_lanes = λ rec l. rearrange rec l (λ h. h.k);

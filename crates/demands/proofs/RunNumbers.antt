@@ -40,7 +40,7 @@ use Rattle.demands.proofs.Updates.{stale_tells}
 
 -- one lane of symbols: it meets no number just if it may change
 module _ (h : Header) (s : Sound h) (ws : List ℕ) (long : length ws ≡ h.n) (below : all_below (size h) ws ≡ true) (r old : ℕ) where
-  fresh_means : (stale_fault h ws r old ≡ 0) → MayChange h ws r old
+  pub fresh_means : (stale_fault h ws r old ≡ 0) → MayChange h ws r old
   unfolding stale_fault
   fresh_means e =
       let (twelve, thirteen) = not_met (no_word h ws) 11 _ e in
@@ -124,7 +124,7 @@ module _ (h : Header) (s : Sound h) (l r first : ℕ) (old new shares : List ℕ
               ⊎_elim (λ x. inl (x.0 ∙ sym is, (i, inside, may, x.1))) (⊎_elim (λ x. inr (inl (x.0 ∙ sym is, (i, inside, may, x.1)))) (λ x. absurd x))
               ((lane_tells i inside).met (λ z. some (is ∙ z)));
           least = λ f met.
-              ⊎_elim (λ x. let (i, inside, may, no) = x.1 in lane_decides i inside may f (inl (x.0, no)))
+              ⊎_elim (λ x. let (i, inside, may, none) = x.1 in lane_decides i inside may f (inl (x.0, none)))
               (⊎_elim (λ x. let (i, inside, may, other) = x.1 in lane_decides i inside may f (inr (inl (x.0, other)))) (λ x. absurd x)) met;
         }
 

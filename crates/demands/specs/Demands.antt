@@ -8,6 +8,7 @@ use Rattle.generator.specs.Claims.{Accepted}
 use Rattle.generator.specs.Pinned.{Pinned}
 use Rattle.demands.specs.LaneAfterLane.{LaneAfterLane}
 use Rattle.demands.specs.Corrections.{Corrections}
+use Rattle.demands.specs.ListedCorrections.{ListedCorrections}
 use Rattle.demands.specs.FieldLaws.{FieldLaws}
 use Rattle.demands.specs.Refusals.{Refusals}
 use Rattle.demands.specs.RosterRefusals.{RosterRefusals}
@@ -70,6 +71,8 @@ pub record Demands : Type 1 where
   pub findings : Findings
   -- setting a block right
   pub corrections : Corrections
+  -- the message of listed shares of which some are wrong
+  pub listed : ListedCorrections
   -- nodes that leave and return, and the nodes that jobs read
   pub rosters : Rosters
   -- shares lane after lane beside shares node after node

@@ -4,13 +4,13 @@ use Rattle.generator.specs.Records.{header_of}
 use Rattle.plan.specs.declared.Plan.{Plan}
 use Rattle.plan.specs.Plans.{PlanSays}
 use Rattle.balanced_c.specs.Calls.{PlanGives, EncodeGives, UpdateGives, RecoverGives, RebuildGives, BelongsGives, ToLanesGives, ToNodesGives, ListedToLanesGives, ListedToNodesGives, WeightsGive}
-use Rattle.balanced_c.specs.Corrections.{CorrectGives}
+use Rattle.balanced_c.specs.Corrections.{CorrectGives, CorrectListedGives}
 use Rattle.balanced_c.specs.RowChanges.{DifferencesGives, AddGives, UpdateLanesGives}
 use Rattle.balanced_c.specs.Lanes.{FindGives, MendsGive}
 use Rattle.demands.specs.Calls.{read, AllWords, SmallestWrong}
 use Rattle.demands.specs.Findings.{InNumbers}
 use Rattle.demands.specs.Judging.{Table, Judged, Returns}
-use Rattle.demands.specs.Numbers.{record_numbers, encode_numbers, update_numbers, run_numbers, recover_numbers, rebuild_numbers, belongs_numbers, correct_numbers, rearrange_numbers, differences_numbers, add_numbers, find_numbers, mends_numbers, weights_numbers}
+use Rattle.demands.specs.Numbers.{record_numbers, encode_numbers, update_numbers, run_numbers, recover_numbers, rebuild_numbers, belongs_numbers, correct_numbers, correct_listed_numbers, rearrange_numbers, differences_numbers, add_numbers, find_numbers, mends_numbers, weights_numbers}
 
 -- `balanced_plan`: the lengths of its four buffers
 abbrev pub plan_numbers : ℕ → ℕ → ℕ → ℕ → Table
@@ -55,6 +55,9 @@ pub record Interface : Type 0 where
   -- balanced_correct: `altered` is left too
   pub correct : (rec : List ℕ) (l : ℕ) (shares : List ℕ) (altered : ℕ) (shares' : List ℕ) (altered' f : ℕ) → CorrectGives rec l shares altered shares' altered' f
       → Judged (record_numbers rec ++ correct_numbers (header_of rec) l shares) (Returns f) ((shares' ≡ shares) × (altered' ≡ altered))
+  -- balanced_correct_listed: `altered` is left too
+  pub correct_listed : (rec : List ℕ) (l : ℕ) (nodes shares out wrong : List ℕ) (altered : ℕ) (out' wrong' : List ℕ) (altered' f : ℕ) → CorrectListedGives rec l nodes shares out wrong altered out' wrong' altered' f
+      → Judged (record_numbers rec ++ correct_listed_numbers (header_of rec) l nodes shares (length out) (length wrong)) (Returns f) ((out' ≡ out) × (wrong' ≡ wrong) × (altered' ≡ altered))
   -- balanced_to_lanes
   pub into_lanes : (rec : List ℕ) (l : ℕ) (source out out' : List ℕ) (f : ℕ) → ToLanesGives rec l source out out' f
       → Judged (record_numbers rec ++ rearrange_numbers (header_of rec) (header_of rec).n l (length source) (length out)) (Returns f) (out' ≡ out)

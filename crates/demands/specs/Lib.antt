@@ -5,7 +5,7 @@
 --   Numbers         the table of each call: what each number is given for, in plain terms
 --   Refusals, RosterRefusals, Interface    demand 1 of each call, of a roster's calls, and of the interface for C
 --   Coding          demand 2 of the definitions; Updates  demand 3's sentence on updates; Calls  both of the calls themselves; RoundTrips  one call after the other
---   Plans, Sheets, Widths, Tables, Findings, Rosters, BadReads, Differences, UpdateRuns, Weights, SmallPlans, Mending, Repairs, BytesInSymbols    a subject each
+--   Plans, Sheets, Widths, Tables, Findings, Corrections, ListedCorrections, Rosters, BadReads, Differences, UpdateRuns, Weights, SmallPlans, Mending, Repairs, BytesInSymbols    a subject each
 pub mod Coding
 pub mod Updates
 pub mod UpdateRuns
@@ -30,6 +30,7 @@ pub mod Interface
 pub mod Demands
 pub mod LaneAfterLane
 pub mod Corrections
+pub mod ListedCorrections
 pub mod Changes
 pub mod Differences
 pub mod Rebuilding

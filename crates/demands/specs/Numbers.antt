@@ -7,6 +7,7 @@ use Rattle.generator.specs.Claims.{is_message, Codeword}
 use Rattle.generator.specs.Pinned.{PrimeFrom, HasOrder}
 use Rattle.correct.specs.Meaning.{NearWord, lane_in}
 use Rattle.update_lanes.specs.Runs.{run_length}
+use Rattle.correct_listed.specs.Meaning.{NearMessage, listed_lane}
 use Rattle.demands.specs.Judging.{Table}
 use Rattle.demands.specs.Calls.{read}
 
@@ -141,6 +142,24 @@ abbrev pub correct_numbers : Header → ℕ → List ℕ → Table
 correct_numbers h l shares =
     belongs_numbers h l shares
     ++ ((14, (t : ℕ) × (t < l) × ((us : List ℕ) → NearWord h (lane_in h l shares t) us → ⊥)) ∷ [])
+
+-- listed shares, k of them to n: some lane has no message within (s − k)/2 of its s symbols
+abbrev pub listed_numbers : Header → ℕ → List ℕ → List ℕ → ℕ → ℕ → Table
+listed_numbers h l nodes shares out_len count =
+    (7, OtherLanes l)
+    ∷ (8, (length nodes < h.k) ⊎ (h.n < length nodes))
+    ∷ (8, length shares ≢ length nodes * l * width h)
+    ∷ (8, out_len ≢ h.k * l * width h)
+    ∷ (8, count ≢ length nodes)
+    ∷ (9, SomeFrom h.n nodes)
+    ∷ (10, SomeTwice nodes)
+    ∷ (11, OtherSymbols h shares)
+    ∷ []
+
+abbrev pub correct_listed_numbers : Header → ℕ → List ℕ → List ℕ → ℕ → ℕ → Table
+correct_listed_numbers h l nodes shares out_len count =
+    listed_numbers h l nodes shares out_len count
+    ++ ((14, (t : ℕ) × (t < l) × ((ms : List ℕ) → NearMessage h nodes (listed_lane h nodes l shares t) ms → ⊥)) ∷ [])
 
 -- rows of shares rearranged: of all n nodes, or of k listed ones
 abbrev pub rearrange_numbers : Header → ℕ → ℕ → ℕ → ℕ → Table

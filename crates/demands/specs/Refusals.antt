@@ -11,12 +11,13 @@ use Rattle.encode.specs.Promise.{EncodeSays}
 use Rattle.rearrange.specs.Promise.{ToLanesSays, ToNodesSays, ListedToLanesSays, ListedToNodesSays}
 use Rattle.differences.specs.Promise.{DifferencesSays, AddSays}
 use Rattle.correct.specs.Promise.{CorrectSays}
+use Rattle.correct_listed.specs.Promise.{CorrectListedSays}
 use Rattle.find_update.specs.declared.Finding.{Finding}
 use Rattle.find_update.specs.Promise.{FindSays}
 use Rattle.mends.specs.Promise.{MendsSay}
 use Rattle.weight_counts.specs.Weights.{WeightsSay}
 use Rattle.demands.specs.Judging.{Judged}
-use Rattle.demands.specs.Numbers.{record_numbers, encode_numbers, update_numbers, run_numbers, recover_numbers, rebuild_numbers, belongs_numbers, correct_numbers, rearrange_numbers, differences_numbers, add_numbers, find_numbers, mends_numbers, weights_numbers}
+use Rattle.demands.specs.Numbers.{record_numbers, encode_numbers, update_numbers, run_numbers, recover_numbers, rebuild_numbers, belongs_numbers, correct_numbers, correct_listed_numbers, rearrange_numbers, differences_numbers, add_numbers, find_numbers, mends_numbers, weights_numbers}
 
 pub record Refusals : Type 0 where
   -- Encode: no byte of the shares is written
@@ -40,6 +41,9 @@ pub record Refusals : Type 0 where
   -- setting right: no lane is touched
   pub correct : (rec : List ℕ) (l : ℕ) (shares shares' : List ℕ) (answer : Answer ℕ) → CorrectSays rec l shares shares' answer
       → Judged (record_numbers rec ++ correct_numbers (header_of rec) l shares) (λ f. answer ≡ Err f) (shares' ≡ shares)
+  -- correct_listed: neither the message nor the counts are written
+  pub correct_listed : (rec : List ℕ) (l : ℕ) (nodes shares out out' wrong wrong' : List ℕ) (answer : Answer ℕ) → CorrectListedSays rec l nodes shares out out' wrong wrong' answer
+      → Judged (record_numbers rec ++ correct_listed_numbers (header_of rec) l nodes shares (length out) (length wrong)) (λ f. answer ≡ Err f) ((out' ≡ out) × (wrong' ≡ wrong))
   -- to_lanes and to_nodes, of all nodes and of k listed ones: no byte is moved
   pub into_lanes : (rec : List ℕ) (l : ℕ) (source out out' : List ℕ) (answer : Answer (Unit {0})) → ToLanesSays rec l source out out' answer
       → Judged (record_numbers rec ++ rearrange_numbers (header_of rec) (header_of rec).n l (length source) (length out)) (λ f. answer ≡ Err f) (out' ≡ out)

@@ -2,7 +2,7 @@
 use mathlib.Core.Path.{◌≡◌, ap, ap₂, ◌∙◌}
 use mathlib.Core.List.{List}
 use Prim.Native.Nat.{ℕ, ◌*◌, ◌≤◌}
-use native.Mathlib.Nat.{mul-le-mul}
+use native.Mathlib.Nat.{mul-le-mul, le_refl}
 use native.Mathlib.Omega.{arith}
 use lib.ListN.{length}
 use Rattle.lists.specs.Rows.{rows_from}
@@ -13,6 +13,7 @@ use Rattle.field.specs.Inner.Sums.{dot}
 use Rattle.generator.specs.declared.Header.{Header}
 use Rattle.generator.specs.Records.{modulus_of, width, Sound}
 use Rattle.generator.proofs.Widths.{width_range}
+use Rattle.tile_products.specs.Inner.Products.{groups_of}
 use Rattle.tile_products.specs.Inner.Matrices.{Begun}
 use Rattle.tile_products.proofs.Beginning.{begun_made}
 use Rattle.tile_products.proofs.Fitting.{lists_fit}
@@ -26,6 +27,17 @@ use Rattle.recover_matrix.proofs.Prepared.{few}
 pub square_room : (h : Header) (groups most : ℕ) → h.k ≤ most → most ≤ 4 * groups → ListRoom h.k (most * (8 * groups)) (most * 8) × (square_bytes h ≤ 2 * most * most)
 square_room h groups most small all =
     (record { entries = lists_fit h.k h.k groups most small (omega arith); sizes = omega arith }, mul-le-mul (mul-le-mul (width_range h).1 small) small)
+
+groups_all : {k rows : ℕ} → k ≤ rows → k ≤ 4 * groups_of rows
+unfolding groups_of
+groups_all few = omega arith
+
+-- room for more rows is room for fewer
+pub less_room : {k rows lists counts : ℕ} → k ≤ rows → ListRoom rows lists counts → (k * (8 * groups_of rows) ≤ lists) × (k * 8 ≤ counts) × ListRoom k lists counts
+less_room {k} {rows} few room =
+    let some : k * (8 * groups_of rows) ≤ rows * (8 * groups_of rows) = mul-le-mul few (le_refl (8 * groups_of rows)) in
+    let fewer : k * (8 * groups_of k) ≤ rows * (8 * groups_of rows) = lists_fit k k (groups_of rows) rows few (groups_all few) in
+    (omega (arith, some, room.entries), omega (arith, room.sizes), record { entries = omega (arith, fewer, room.entries); sizes = omega (arith, room.sizes) })
 
 -- with the lists of k rows made, a product is ready
 pub rows_ready : {h : Header} {w l out : ℕ} {ws : ℕ → List ℕ} {source lists counts : List ℕ} → Sound h → w ≡ width h → l ≤ 4096 → length source ≡ width h * h.k * l → out ≡ width h * h.k * l → ListRoom h.k (length lists) (length counts) → Begun (modulus_of h) h.k ws h.k lists counts → Ready (row_product h l) w lists counts source out

@@ -1,18 +1,20 @@
 -- Sums of the rows' terms with the quotients give the rows of the inverse.
 use mathlib.Core.Path.{◌≡◌, refl, sym, ap, ◌∙◌}
 use mathlib.Core.Bool.{true}
+use mathlib.Core.Logic.{by_cases}
 use mathlib.Core.List.{List}
 use Prim.Native.Nat.{ℕ, ◌+◌, ◌*◌, ◌≤◌, ◌<◌}
-use native.Mathlib.Nat.{zero-add}
+use native.Mathlib.Decide.{dec_lt}
+use native.Mathlib.Nat.{zero-add, le_refl}
 use native.Mathlib.Omega.{arith}
-use lib.ListN.{length, get_or, drop}
-use lib.Seq.{ext_get_or}
+use lib.ListN.{length, get_or, take, drop}
+use lib.Seq.{ext_get_or, get_or-take, length-take-le}
 use Rattle.lists.specs.Numbers.{all_below}
 use Rattle.lists.specs.Padded.{padded}
 use Rattle.lists.specs.Rows.{from, rows_from}
 use Rattle.lists.proofs.Lanes.{get_d_rows}
 use Rattle.lists.proofs.Numbers.{below_at, below_take}
-use Rattle.lists.proofs.Padding.{take_padded}
+use Rattle.lists.proofs.Padding.{length_padded, get_or_padded, take_padded, below_padded, padded_past}
 use Rattle.lists.proofs.Rows.{from_ext}
 use Rattle.layout.specs.Layout.{row_after_row, lane_after_lane, lane_of}
 use Rattle.layout.proofs.Lawful.{by_row}
@@ -20,6 +22,7 @@ use Rattle.layout.proofs.Buffers.{length_lane, get_or_lane, length_buffer, held_
 use Rattle.layout.proofs.Places.{held_by_row, held_by_lane}
 use Rattle.field.specs.Fields.{mul}
 use Rattle.field.specs.Inner.Sums.{dot}
+use Rattle.field.proofs.FieldOf.{size_pos}
 use Rattle.field.proofs.Sums.{dot_below}
 use Rattle.generator.specs.declared.Header.{Header}
 use Rattle.generator.specs.Records.{modulus_of, size, Sound}
@@ -32,7 +35,8 @@ use Rattle.node_weights.specs.Inner.Weights.{Recovers}
 use Rattle.node_weights.proofs.InverseRows.{length_weights_of}
 use Rattle.node_weights.proofs.Parts.{Symbols, parts, node_symbols, row_symbols, base_symbols, term_symbols}
 use Rattle.node_weights.proofs.Recovering.{recovers}
-use Rattle.recover_matrix.specs.Inner.Inverse.{node_points, node_quotient, inverse_row, inverse_sums}
+use Rattle.tile_products.specs.Inner.Matrices.{Begun}
+use Rattle.recover_matrix.specs.Inner.Inverse.{node_points, node_quotient, inverse_row, inverse_sums, padded_row}
 
 -- a lane of rows that stand one after the other
 row_lane : (k : ℕ) (g : ℕ → List ℕ) → ((r : ℕ) → length (g r) ≡ k) → (r : ℕ) → r < k → lane_of lane_after_lane k k r (rows_from g 0 k) ≡ g r
@@ -119,3 +123,48 @@ module _ (h : Header) (s : Sound h) (few : h.k ≤ 255) where
     pub length_sums : length (inverse_sums h js) ≡ h.k * h.k
     unfolding inverse_sums
     length_sums = length_buffer row_after_row h.k h.k _
+
+-- a part of an array that holds a list and zeros after it
+pub take_longer : (n m : ℕ) (xs : List ℕ) → length xs ≤ m → m ≤ n → take m (padded n xs) ≡ padded m xs
+take_longer n m xs short fits =
+    let whole : length (padded n xs) ≡ n = length_padded n xs (omega arith) in
+    let long : length (take m (padded n xs)) ≡ m = length-take-le m (padded n xs) (omega arith) in
+    ext_get_or 0 (take m (padded n xs)) (padded m xs) (long ∙ sym (length_padded m xs short))
+    (λ i inside.
+    let low : i < m = omega arith in
+    get_or-take m (padded n xs) i 0 low
+    ∙ by_cases (dec_lt i (length xs)) (λ l. get_or_padded n xs i l ∙ sym (get_or_padded m xs i l)) (λ l. padded_past n xs i (omega arith) ∙ sym (padded_past m xs i (omega arith))))
+
+-- a list that is as long as that has none after it
+padded_full : (n : ℕ) (xs : List ℕ) → length xs ≡ n → padded n xs ≡ xs
+padded_full n xs long = sym (take_longer n n xs (omega arith) (le_refl n)) ∙ take_padded n n xs long
+
+module _ {h : Header} (s : Sound h) (js : List ℕ) (nodes : are_nodes h js ≡ true) where
+  abbrev few_rows : h.k ≤ 255
+  few_rows = omega (arith, s.fits, s.byte)
+
+  -- rows with zeros after them
+  module _ (rows : ℕ) (more : h.k ≤ rows) where
+    short_row : (r : ℕ) → length (inverse_row h js r) ≤ rows
+    short_row r = omega (arith, length_row h s few_rows js nodes r)
+
+    pub length_padded_row : (r : ℕ) → length (padded_row h js rows r) ≡ rows
+    unfolding padded_row
+    length_padded_row r = length_padded rows (inverse_row h js r) (short_row r)
+
+    pub padded_row_below : (r : ℕ) → r < h.k → all_below (size h) (padded_row h js rows r) ≡ true
+    unfolding padded_row
+    padded_row_below r row = below_padded (size h) rows (inverse_row h js r) (size_pos (modulus_of h) s.field) (row_below h s few_rows js nodes r row)
+
+    pub row_taken : rows ≤ 255 → (r : ℕ) → take rows (padded 255 (inverse_row h js r)) ≡ padded_row h js rows r
+    unfolding padded_row
+    row_taken fits r = take_longer 255 rows (inverse_row h js r) (short_row r) fits
+
+  -- k numbers have none after them
+  pub rows_begun : {lists counts : List ℕ} → Begun (modulus_of h) h.k (padded_row h js h.k) h.k lists counts → Begun (modulus_of h) h.k (inverse_row h js) h.k lists counts
+  unfolding padded_row
+  rows_begun b =
+      record {
+        size = length_row h s few_rows js nodes;
+        each = λ i low. rw (sym (padded_full h.k (inverse_row h js i) (length_row h s few_rows js nodes i))) (b.each i low);
+      }

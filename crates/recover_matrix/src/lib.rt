@@ -9,9 +9,9 @@ ghost use Rattle.generator.specs.Records.{modulus_of, width};
 ghost use Rattle.generator.specs.Claims.{are_nodes};
 ghost use Rattle.node_weights.specs.Inner.Rows.{setup_of, row_terms};
 ghost use Rattle.tile_products.specs.Inner.Matrices.{Begun};
-ghost use Rattle.recover_matrix.specs.Inner.Inverse.{inverse_row, inverse_sums, node_quotient, row_product, square_bytes, ListRoom};
+ghost use Rattle.recover_matrix.specs.Inner.Inverse.{inverse_row, inverse_sums, node_quotient, padded_row, row_product, square_bytes, ListRoom};
 
-mod message;
+pub mod message;
 
 use block_products::{Product, Way};
 use generator::Codec;
@@ -112,24 +112,30 @@ impl Inverse<'_, '_> {
         out
     }
 
-    // The lists of all rows, from the sums.
-    #[tactic(auto, using(lists::proofs::Padding::take_padded, crate::proofs::Rows::length_row, crate::proofs::Rows::row_below, crate::proofs::Prepared::few))]
-    fn list_from(self, sums: &[u8], codes: WeightCodes, lists: &mut [u16], counts: &mut [u8])
-        requires { (sums.now ≡ bytes_of (width self.codec.code.header) (inverse_sums self.codec.code.header self.nodes.now)) × (codes.field ≡ self.codec.code.header.field) × ListRoom self.codec.code.header.k (length lists.old) (length counts.old) }
-        ensures { let h = self.entry.codec.code.header in Begun (modulus_of h) h.k (inverse_row h self.entry.nodes.now) h.k lists.new counts.new }
+    // The lists of all rows, from the sums, each with zeros after it up to so many.
+    fn list_from(
+        self,
+        rows: usize,
+        sums: &[u8],
+        codes: WeightCodes,
+        lists: &mut [u16],
+        counts: &mut [u8],
+    )
+        requires { (sums.now ≡ bytes_of (width self.codec.code.header) (inverse_sums self.codec.code.header self.nodes.now)) × (codes.field ≡ self.codec.code.header.field) × (self.codec.code.header.k ≤ rows) × (rows ≤ 255) × ListRoom rows (length lists.old) (length counts.old) }
+        ensures { let h = self.entry.codec.code.header in Begun (modulus_of h) rows (padded_row h self.entry.nodes.now rows) h.k lists.new counts.new }
     {
         let k = self.codec.code.header.k as usize;
         let row = move |r: usize| -> [u16; 255]
             requires { (r < self.codec.code.header.k) × (sums.now ≡ bytes_of (width self.codec.code.header) (inverse_sums self.codec.code.header self.nodes.now)) }
             ensures { result ≡ padded 255 (inverse_row self.entry.codec.code.header self.entry.nodes.now r) }
         { self.row(r, sums) };
-        codes.prepare_all(k, k, row, lists, counts);
+        codes.prepare_all(rows, k, row, lists, counts);
     }
 
     // The same, with the sums of all rows' terms with all quotients made in scratch of so many bytes for each of two square matrices.
-    fn list_rows<const SQUARE: usize>(self, lists: &mut [u16], counts: &mut [u8])
-        requires { (SQUARE ≤ 130050) × (square_bytes self.codec.code.header ≤ SQUARE) × ListRoom self.codec.code.header.k (length lists.old) (length counts.old) }
-        ensures { let h = self.entry.codec.code.header in Begun (modulus_of h) h.k (inverse_row h self.entry.nodes.now) h.k lists.new counts.new }
+    pub fn list_rows<const SQUARE: usize>(self, rows: usize, lists: &mut [u16], counts: &mut [u8])
+        requires { (SQUARE ≤ 130050) × (square_bytes self.codec.code.header ≤ SQUARE) × (self.codec.code.header.k ≤ rows) × (rows ≤ 255) × ListRoom rows (length lists.old) (length counts.old) }
+        ensures { let h = self.entry.codec.code.header in Begun (modulus_of h) rows (padded_row h self.entry.nodes.now rows) h.k lists.new counts.new }
     {
         let k = self.codec.code.header.k as usize;
         let w = symbols::width_of(self.codec.code.header);
@@ -143,6 +149,6 @@ impl Inverse<'_, '_> {
         self.fill_terms(terms);
         self.list_quotients(codes, lists, counts);
         block_products::fill(self.product(k), w, lists, counts, terms, sums);
-        self.list_from(sums, codes, lists, counts);
+        self.list_from(rows, sums, codes, lists, counts);
     }
 }

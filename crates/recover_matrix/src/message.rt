@@ -9,11 +9,11 @@ use tile_products::scratch::{
 };
 
 // The bytes of a square matrix of 16, 64 and 255 rows, two for a symbol.
-const SMALL_SQUARE: usize = 512;
+pub const SMALL_SQUARE: usize = 512;
 
-const MIDDLE_SQUARE: usize = 8192;
+pub const MIDDLE_SQUARE: usize = 8192;
 
-const LARGE_SQUARE: usize = 130050;
+pub const LARGE_SQUARE: usize = 130050;
 
 impl Inverse<'_, '_> {
     // The message in scratch for lists of so many elements, so many counts, and square matrices of so many bytes. A bound of a const parameter
@@ -30,7 +30,8 @@ impl Inverse<'_, '_> {
         let w = symbols::width_of(self.codec.code.header);
         let mut lists = [0u16; LISTS];
         let mut counts = [0u8; COUNTS];
-        self.list_rows::<SQUARE>(&mut lists, &mut counts);
+        let k = self.codec.code.header.k as usize;
+        self.list_rows::<SQUARE>(k, &mut lists, &mut counts);
         block_products::fill(self.product(lanes), w, &lists, &counts, shares, out);
     }
 

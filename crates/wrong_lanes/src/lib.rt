@@ -10,7 +10,7 @@ ghost use Rattle.blocks.specs.Blocks.{first_wrong};
 
 use generator::Code;
 
-mod check_rows;
+pub mod check_rows;
 mod marks;
 
 // So many lanes of shares, which hold symbols of the code's field.

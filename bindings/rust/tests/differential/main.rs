@@ -6,6 +6,7 @@ mod corrections;
 mod damage;
 mod differences;
 mod findings;
+mod listed;
 mod mends;
 mod notebook;
 mod plans;

@@ -1,5 +1,6 @@
 -- The rows of the inverse of the encoding at listed nodes, and how they come from sums of two matrices.
 use Rattle.std.specs.Prelude.{List, ℕ, ◌*◌, ◌≤◌, get_or, drop}
+use Rattle.lists.specs.Padded.{padded}
 use Rattle.lists.specs.Rows.{rows_from}
 use Rattle.layout.specs.Layout.{row_after_row, lane_after_lane, lane_of, buffer}
 use Rattle.layout.specs.Width.{symbols_of, bytes_of}
@@ -21,6 +22,10 @@ node_points h js = points_of (modulus_of h) h.root 0 js
 -- the weights with which the listed nodes give symbol r of the message
 unfoldable pub inverse_row : Header → List ℕ → ℕ → List ℕ
 inverse_row h js r = weights_of (modulus_of h) (get_or (scales_of (modulus_of h) (row_points h)) r 0) (row_terms h r) (drop 1 (product_of (modulus_of h) (node_points h js))) (node_points h js) (scales_of (modulus_of h) (node_points h js))
+
+-- the same with zeros after them up to so many
+unfoldable pub padded_row : Header → List ℕ → ℕ → ℕ → List ℕ
+padded_row h js rows r = padded rows (inverse_row h js r)
 
 -- the quotient of the product over all nodes' points by the factor of node i
 abbrev pub node_quotient : Header → List ℕ → ℕ → List ℕ

@@ -6,6 +6,7 @@ mod code;
 mod differences;
 mod field;
 mod lanes;
+mod listed;
 mod nearest;
 mod repair;
 mod roster;
@@ -15,6 +16,7 @@ pub use code::{bytes_of, width, Code};
 pub use differences::{add_share, differences, update_lanes};
 pub use field::{is_prime, Field};
 pub use lanes::{added, find_update, mends};
+pub use listed::correct_listed;
 pub use roster::{Event, History};
 
 pub use repair::{repair_bits, repair_plan, repair_share};

@@ -3,9 +3,9 @@
 use super::{Code, Field};
 
 /// Coefficients, the lowest first, with no zero at the end.
-type Polynomial = Vec<u16>;
+pub type Polynomial = Vec<u16>;
 
-fn trimmed(mut a: Polynomial) -> Polynomial {
+pub fn trimmed(mut a: Polynomial) -> Polynomial {
     while a.last() == Some(&0) {
         a.pop();
     }
@@ -13,7 +13,7 @@ fn trimmed(mut a: Polynomial) -> Polynomial {
 }
 
 /// The quotient and the remainder.
-fn divided(f: &Field, mut a: Polynomial, b: &Polynomial) -> (Polynomial, Polynomial) {
+pub fn divided(f: &Field, mut a: Polynomial, b: &Polynomial) -> (Polynomial, Polynomial) {
     let scale = f.inverse(b[b.len() - 1]);
     let mut quotient = vec![0; (a.len() + 1).saturating_sub(b.len())];
     while a.len() >= b.len() {
@@ -29,7 +29,7 @@ fn divided(f: &Field, mut a: Polynomial, b: &Polynomial) -> (Polynomial, Polynom
 }
 
 /// a − b·c
-fn less_product(f: &Field, a: &Polynomial, b: &Polynomial, c: &Polynomial) -> Polynomial {
+pub fn less_product(f: &Field, a: &Polynomial, b: &Polynomial, c: &Polynomial) -> Polynomial {
     let mut sum = a.clone();
     sum.resize(a.len().max(b.len() + c.len()), 0);
     for (i, &x) in b.iter().enumerate() {

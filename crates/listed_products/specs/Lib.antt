@@ -1,0 +1,2 @@
+-- Nothing here is promised to a caller of the library.
+pub mod Inner
