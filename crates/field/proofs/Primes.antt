@@ -4,13 +4,9 @@ use mathlib.Core.Bool.{Bool, true, false, ◌&&◌, not, true≢false}
 use mathlib.Core.Logic.{⊎_elim}
 use Prim.Native.Nat.{ℕ, zero, suc, ◌+◌, ◌-◌, ◌*◌, ◌/◌, ◌%◌, ◌≤◌, ◌<◌}
 use native.Mathlib.Omega.{arith}
-use native.Mathlib.Nat.{le-suc_iff, le_refl, le_step, div-add-mod', mul-mod_right, mul-le-mul, mul-le-mul_left, mul-le-mul_right, div-lt_iff_lt-mul, lt_of_not-le}
+use native.Mathlib.Nat.{le-suc_iff, le_refl, le_step, div-add-mod', mul-mod_right, mul-le-mul, mul-le-mul_right, div-lt_iff_lt-mul, lt_of_not-le}
 use borrow.Author.Tests.{ltb-true, ltb-false, leb-true, eqb-true, eq-eqb, le-leb, lt-leb, not-true}
 use lib.Dec.{eqb, leb, ltb}
-use lib.ListN.{length, get_or}
-use Rattle.std.specs.Bool.{MatchBool}
-use Rattle.std.specs.List.{range_with_len, AllWithin, HoldsAt}
-use Rattle.std.proofs.lemmas.List.FromFn.{length-range_with_len, get_or-range_with_len}
 use Rattle.std.proofs.lemmas.Bool.{and_from, or_from, and_parts, or_parts}
 use Rattle.lists.proofs.Cases.{by_test, not_both}
 use Rattle.field.specs.Primes.{divides_some, is_prime}
@@ -63,18 +59,6 @@ trial p d two root none = and_from _ _ (le-leb 2 p two) (ap not (none_divides (p
         (lt_of_not-le (λ h. omega (arith, mul-le-mul h (ltb-false e d t))))
         (lt_of_not-le (λ h. omega (arith, mul-le-mul_right e h)))
         (ap (λ (x : ℕ). x % f) (sym product) ∙ mul-mod_right f e))
-
--- what a trial of the numbers from 2 up to the root r found
-pub tried : (p r : ℕ) → 2 ≤ p → r * r ≤ p → p < (r + 1) * (r + 1) → (b : Bool) → let all = range_with_len 2 (r + 1 - 2) in MatchBool b (AllWithin (λ d. p % d ≡ 0 → ⊥) all 0 (length all)) ((k : ℕ) × (k < length all) × HoldsAt (λ d. p % d ≡ 0) all k) → b ≡ is_prime p
-tried p r two square next true none =
-    sym (trial p (r + 1) two ((div-lt_iff_lt-mul {k = r + 1} (omega arith)).1 next) (λ d high low divides.
-    let place : d - 2 < length (range_with_len 2 (r + 1 - 2)) = rw (length-range_with_len 2 (r + 1 - 2)) (omega arith) in
-    let held : get_or (range_with_len 2 (r + 1 - 2)) (d - 2) 0 ≡ d = get_or-range_with_len 2 (r + 1 - 2) (d - 2) 0 (omega arith) ∙ omega arith in
-    (rw held at (none (d - 2) 0 (omega arith) place)) divides))
-tried p r two square next false (k, inside, divides) =
-    let place : k < r + 1 - 2 = rw (length-range_with_len 2 (r + 1 - 2)) at inside in
-    let low : r * 2 ≤ r * r = mul-le-mul_left r (omega arith) in
-    sym (composite p (2 + k) (omega arith) (omega arith) (rw (get_or-range_with_len 2 (r + 1 - 2) k 0 place) at (divides 0)))
 
 module _ (p : ℕ) (prime : is_prime p ≡ true) where
   pub two≤prime : 2 ≤ p

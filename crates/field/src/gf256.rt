@@ -1,9 +1,10 @@
 // The field of 256 elements: bytes as polynomials over two elements modulo 0x11D. Its number is 0.
-ghost use Rattle.std.specs.Prelude.{◌≡◌, ⊤, ◌%◌, ◌<◌};
+ghost use Rattle.std.specs.Prelude.{◌≡◌, ⊤, ◌%◌, ◌≤◌, ◌<◌, eqb};
+ghost use Rattle.field.specs.Fields.{add, sub, mul, inverse, order_of};
 ghost use Rattle.field.specs.Kinds.{gf256};
 
 use crate::kind::FieldKind;
-use crate::tables::Tables;
+use crate::tables::{Tables, constant_tables};
 
 #[derive(Clone, Copy)]
 pub struct Gf256 {}
@@ -19,6 +20,66 @@ impl Gf256 {
     {
         Self {}
     }
+
+    #[tactic(auto, unfolding(crate::specs::Fields::size_of))]
+    pub fn add(self, a: u32, b: u32) -> u32
+        requires { (a < 256) × (b < 256) }
+        ensures { result ≡ add 0 a b }
+    {
+        FieldKind::add(self, a, b)
+    }
+
+    #[tactic(auto, unfolding(crate::specs::Fields::size_of))]
+    pub fn sub(self, a: u32, b: u32) -> u32
+        requires { (a < 256) × (b < 256) }
+        ensures { result ≡ sub 0 a b }
+    {
+        FieldKind::sub(self, a, b)
+    }
+
+    // With tables of its own, for one product.
+    pub fn mul(self, a: u32, b: u32) -> u32
+        requires { (a < 256) × (b < 256) }
+        ensures { result ≡ mul 0 a b }
+    {
+        let tables = constant_tables();
+        self.mul_with(&tables, a, b)
+    }
+
+    #[tactic(auto, unfolding(crate::specs::Fields::size_of))]
+    pub fn mul_with(self, tables: &Tables, a: u32, b: u32) -> u32
+        requires { (a < 256) × (b < 256) }
+        ensures { result ≡ mul 0 a b }
+    {
+        FieldKind::mul(self, tables, a, b)
+    }
+
+    // 0 for 0.
+    pub fn inverse(self, a: u32) -> u32
+        requires { a < 256 }
+        ensures { result ≡ inverse 0 a }
+    {
+        let tables = constant_tables();
+        self.inverse_with(&tables, a)
+    }
+
+    #[tactic(auto, using(crate::proofs::Meanings::byte_field), unfolding(crate::specs::Fields::size_of))]
+    pub fn inverse_with(self, tables: &Tables, a: u32) -> u32
+        requires { a < 256 }
+        ensures { result ≡ inverse 0 a }
+    {
+        FieldKind::inverse(self, tables, a)
+    }
+
+    // Whether the order of a is n.
+    #[tactic(auto, unfolding(crate::specs::Fields::size_of))]
+    pub fn has_order(self, a: u32, n: u32) -> bool
+        requires { (a < 256) × (1 ≤ n) × (n ≤ 256) }
+        ensures { result ≡ eqb (order_of 0 a) n }
+    {
+        let tables = constant_tables();
+        FieldKind::has_order(self, &tables, a, n)
+    }
 }
 
 impl FieldKind for Gf256 {
@@ -32,7 +93,7 @@ impl FieldKind for Gf256 {
     }
 
     // Each byte is its own negative.
-    #[tactic(auto, unfolding(crate::specs::Fields::add, crate::specs::Fields::sub))]
+    #[tactic(auto, unfolding(crate::specs::Fields::size_of, crate::specs::Fields::add, crate::specs::Fields::sub))]
     fn sub(self, a: u32, b: u32) -> u32 {
         self.add(a, b)
     }

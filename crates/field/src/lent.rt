@@ -44,15 +44,15 @@ impl<'a> Arithmetic<'a> {
         self.field.sub(a, b)
     }
 
-    #[tactic(auto, using(crate::proofs::KindLaws::mul_symbol, crate::proofs::KindLaws::prime_fits), unfolding(crate::specs::Kinds::modulus))]
+    #[tactic(auto, using(crate::proofs::KindLaws::mul_symbol, crate::proofs::KindLaws::prime_fits), unfolding(crate::specs::Fields::size_of, crate::specs::Kinds::modulus))]
     pub fn mul(self, a: u32, b: u32) -> u32
         requires { (a < size_of (modulus self.field)) × (b < size_of (modulus self.field)) }
         ensures is { result ≡ mul (modulus self.entry.field) a b }
         ensures symbol { result < size_of (modulus self.entry.field) }
     {
         match self.field {
-            Field::Prime(f) => f.mul(self.tables, a, b),
-            Field::Binary(g) => g.mul(self.tables, a, b),
+            Field::Prime(f) => f.mul(a, b),
+            Field::Binary(g) => g.mul_with(self.tables, a, b),
         }
     }
 
@@ -65,15 +65,15 @@ impl<'a> Arithmetic<'a> {
     }
 
     // The symbol whose product with a is 1; 0 for 0.
-    #[tactic(auto, using(crate::proofs::KindLaws::inverse_symbol, crate::proofs::KindLaws::prime_fits, crate::proofs::KindLaws::prime_names, crate::proofs::Meanings::byte_field), unfolding(crate::specs::Kinds::modulus))]
+    #[tactic(auto, using(crate::proofs::KindLaws::inverse_symbol, crate::proofs::KindLaws::prime_fits, crate::proofs::KindLaws::usable_prime), unfolding(crate::specs::Fields::size_of, crate::specs::Kinds::modulus))]
     pub fn inverse(self, a: u32) -> u32
         requires { a < size_of (modulus self.field) }
         ensures is { result ≡ inverse (modulus self.entry.field) a }
         ensures symbol { result < size_of (modulus self.entry.field) }
     {
         match self.field {
-            Field::Prime(f) => f.inverse(self.tables, a),
-            Field::Binary(g) => g.inverse(self.tables, a),
+            Field::Prime(f) => f.inverse(a),
+            Field::Binary(g) => g.inverse_with(self.tables, a),
         }
     }
 

@@ -65,7 +65,7 @@ impl Field {
         if top / 256 % 256 == 0 { 1 } else { 2 }
     }
 
-    #[tactic(auto, using(crate::proofs::KindLaws::prime_fits), unfolding(crate::specs::Kinds::modulus))]
+    #[tactic(auto, using(crate::proofs::KindLaws::prime_fits), unfolding(crate::specs::Fields::size_of, crate::specs::Kinds::modulus))]
     pub fn add(self, a: u32, b: u32) -> u32
         requires { (usable self ≡ true) × (a < size_of (modulus self)) × (b < size_of (modulus self)) }
         ensures { result ≡ add (modulus self) a b }
@@ -76,7 +76,7 @@ impl Field {
         }
     }
 
-    #[tactic(auto, using(crate::proofs::KindLaws::prime_fits), unfolding(crate::specs::Kinds::modulus))]
+    #[tactic(auto, using(crate::proofs::KindLaws::prime_fits), unfolding(crate::specs::Fields::size_of, crate::specs::Kinds::modulus))]
     pub fn sub(self, a: u32, b: u32) -> u32
         requires { (usable self ≡ true) × (a < size_of (modulus self)) × (b < size_of (modulus self)) }
         ensures { result ≡ sub (modulus self) a b }
@@ -105,15 +105,14 @@ impl Field {
     }
 
     // Whether the order of a is n: the first exponent whose power of a is 1.
-    #[tactic(auto, using(crate::proofs::KindLaws::prime_fits), unfolding(crate::specs::Kinds::modulus))]
+    #[tactic(auto, using(crate::proofs::KindLaws::prime_fits), unfolding(crate::specs::Fields::size_of, crate::specs::Kinds::modulus))]
     pub fn has_order(self, a: u32, n: u32) -> bool
         requires { (usable self ≡ true) × (a < size_of (modulus self)) × (1 ≤ n) × (n ≤ 256) }
         ensures { result ≡ eqb (order_of (modulus self) a) n }
     {
-        let tables = constant_tables();
         match self {
-            Field::Prime(f) => f.has_order(&tables, a, n),
-            Field::Binary(g) => g.has_order(&tables, a, n),
+            Field::Prime(f) => f.has_order(a, n),
+            Field::Binary(g) => g.has_order(a, n),
         }
     }
 }

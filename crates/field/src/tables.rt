@@ -5,8 +5,8 @@ ghost use Rattle.field.specs.Logarithms.{ArePowersAndLogarithms};
 
 #[derive(Clone, Copy)]
 pub struct Tables {
-    powers: [u8; 255],
-    logarithms: [u8; 255],
+    pub powers: [u8; 255],
+    pub logarithms: [u8; 255],
     pub ghost agree: { ArePowersAndLogarithms powers logarithms },
 }
 

@@ -2,7 +2,7 @@
 use mathlib.Core.Path.{sym}
 use native.Mathlib.Omega.{arith}
 use Rattle.field.proofs.Meanings.{mul_modulo}
-use Rattle.field.proofs.prime.PrimeFieldFieldKind.mul.Goals as goal
+use Rattle.field.proofs.prime.PrimeField.mul.Goals as goal
 
 pub returns : goal.returns
 returns c = sym (mul_modulo _ (omega arith) _ _)

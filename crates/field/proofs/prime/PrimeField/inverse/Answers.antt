@@ -4,18 +4,18 @@ use Prim.Native.Nat.{◌+◌, ◌/◌, ◌%◌, ◌<◌}
 use native.Mathlib.Omega.{arith}
 use Rattle.field.specs.Fields.{inverse}
 use Rattle.field.proofs.Primes.{two≤prime}
-use Rattle.field.proofs.Meanings.{mul_under, sub_under, field_prime}
+use Rattle.field.proofs.Meanings.{mul_under, sub_under, prime_field}
 use Rattle.field.proofs.PrimeInverse.{step_bounds, turn_down, turn_up, turn_start}
 use Rattle.field.proofs.Inverse.{inverse_zero, prime_inverse}
-use Rattle.field.proofs.prime.PrimeFieldFieldKind.inverse.Goals as goal
-use Rattle.field.proofs.prime.PrimeFieldFieldKind.inverse.Goals.{In-loop-x}
+use Rattle.field.proofs.prime.PrimeField.inverse.Goals as goal
+use Rattle.field.proofs.prime.PrimeField.inverse.Goals.{In-loop-x}
 
 pub returns-then-a-eq-ZERO : goal.returns-then-a-eq-ZERO
 returns-then-a-eq-ZERO c =
-    sym (ap (inverse c.args.self.p) c.if-a-eq-ZERO.true ∙ inverse_zero c.args.self.p c.requires.1)
+    sym (ap (inverse c.args.self.p) c.if-a-eq-ZERO.true ∙ inverse_zero c.args.self.p (prime_field _ c.requires.0))
 
 pub loop-x-init : goal.loop-x-init
-loop-x-init c = (omega arith, omega arith, two≤prime _ (field_prime c.requires.1 c.requires.0.0), turn_start _ _ (omega arith))
+loop-x-init c = (omega arith, omega arith, two≤prime _ c.requires.0, turn_start _ _ (omega arith))
 
 -- what holds of the quotient and the rest of a turn
 turn : (c : In-loop-x)
@@ -23,7 +23,7 @@ turn : (c : In-loop-x)
     (0 < p % x) × (p % x < x) × (p / x + 1 < p)
 turn c =
     let l = c.loop-x in
-    step_bounds _ (field_prime c.requires.1 c.requires.0.0) _ l.invariant.0 c.loop-x-test.true l.invariant.1
+    step_bounds _ c.requires.0 _ l.invariant.0 c.loop-x-test.true l.invariant.1
 
 pub sub-t-requires : goal.sub-t-requires
 sub-t-requires c =
@@ -53,4 +53,4 @@ loop-x-preserved c =
 pub returns : goal.returns
 returns c =
     let inv = c.loop-x.invariant in
-    prime_inverse _ (field_prime c.requires.1 c.requires.0.0) _ _ (omega arith) inv.2 (inv.3 ∙ c.loop-x-test.false)
+    prime_inverse _ c.requires.0 _ _ (omega arith) inv.2 (inv.3 ∙ c.loop-x-test.false)
