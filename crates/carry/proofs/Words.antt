@@ -5,9 +5,12 @@ use Prim.Native.Nat.{ℕ, zero, suc, ◌+◌, ◌-◌, ◌*◌, ◌/◌, ◌%◌
 use native.Mathlib.Numerals.{add-one}
 use native.Mathlib.Omega.{arith}
 use lib.Bits.{bit_xor, xor_shr, xor_mod}
+use lib.Dec.{eqb}
 use lib.ListN.{length, get_or, take, drop, length-append, drop_of_length-le}
 use lib.Seq.{take_at, drop_at}
+use borrow.Author.Tests.{eqb-true, eqb-false}
 use Rattle.lists.specs.Padded.{zeros, padded}
+use Rattle.lists.proofs.Cases.{by_test}
 use Rattle.lists.proofs.Padding.{get_or_padded, padded_past}
 use Rattle.layout.specs.Width.{symbol_at, symbols_of, symbol_bytes, bytes_of}
 use Rattle.layout.proofs.Widths.{get_or_symbols, length_symbols}
@@ -101,6 +104,13 @@ module _ (s : List ℕ) (low : (i : ℕ) → get_or s i 0 < 256) where
       ∙ ap (λ (l : List ℕ). get_or l (i % 2) 0) (opened_word q (omega arith))
       ∙ of_two q (i % 2) (omega arith)
       ∙ ap (λ (x : ℕ). bit_xor (get_or s (x + 2) 0) (get_or s (i % 2) 0)) (sym place)
+
+-- the byte of a mask of two bytes by the parity of a place
+pub mask_at : (s : List ℕ) → (i b : ℕ) → (i % 2 ≡ 0 → b ≡ get_or s 0 0) → (i % 2 ≡ 1 → b ≡ get_or s 1 0) → b ≡ get_or s (i % 2) 0
+mask_at s i b even odd =
+    by_test (eqb (i % 2) 0)
+    (λ t. let e = eqb-true _ _ t in even e ∙ ap (λ (x : ℕ). get_or s x 0) (sym e))
+    (λ t. let e : i % 2 ≡ 1 = omega (arith, eqb-false _ _ t) in odd e ∙ ap (λ (x : ℕ). get_or s x 0) (sym e))
 
 -- two bytes in front of others, as code writes them
 pub written_behind : (a b out : List ℕ) → length a ≡ 2 → take 2 (a ++ drop 2 out) ++ (b ++ drop (length (a ++ drop 2 out) - 2) (drop 2 (a ++ drop 2 out))) ≡ a ++ b

@@ -55,13 +55,24 @@ pub fn write_covered(c: u16, words: &[u16], out: &mut [u8])
     write_masked(c, words, &mut out[2..]);
 }
 
+// The byte of a mask under which byte i of its group's words stands: the high and the low one in turn. By `group[i % 2]` in the loop, the
+// processor opens a group byte by byte.
+fn mask_byte(high: u8, low: u8, i: usize) -> u8
+    ensures even { i % 2 ≡ 0 → result ≡ high }
+    ensures odd { i % 2 ≡ 1 → result ≡ low }
+{
+    if i % 2 == 0 { high } else { low }
+}
+
 // As many bytes of a group as there is room for: its mask stands first, and a byte is under the mask's byte of its place in the word.
 pub fn open_group(group: &[u8], out: &mut [u8])
     requires { (length group.now % 2 ≡ 0) × (length out.old + 2 ≤ length group.now) }
     ensures { out.new ≡ take (length out.old) (bytes_of 2 (opened (symbols_of 2 group.now))) }
 {
+    let high = group[0];
+    let low = group[1];
     for (i, byte) in out.iter_mut().enumerate() {
-        *byte = group[i + 2] ^ group[i % 2];
+        *byte = group[i + 2] ^ mask_byte(high, low, i);
     }
 }
 

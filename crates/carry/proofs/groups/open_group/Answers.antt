@@ -11,12 +11,14 @@ use Rattle.layout.specs.Width.{symbols_of, bytes_of}
 use Rattle.layout.proofs.Widths.{length_symbols, length_bytes}
 use Rattle.carrying.specs.Masks.{opened}
 use Rattle.carrying.proofs.Carried.{length_opened}
-use Rattle.carry.proofs.Words.{opened_byte}
+use Rattle.carry.proofs.Words.{mask_at, opened_byte}
 use Rattle.carry.proofs.groups.open_group.Goals as goal
 
 pub loop-i-preserved : goal.loop-i-preserved
 loop-i-preserved c =
-    let l = c.loop-i in fills_put (rw (from_next _ (length c.args.out.now) l.i (omega arith)) at l.invariant) (omega arith)
+    let l = c.loop-i in
+    let mask = mask_at c.args.group.now l.i c.mask_byte.result c.mask_byte.ensures.even c.mask_byte.ensures.odd in
+    rw mask (fills_put (rw (from_next _ (length c.args.out.now) l.i (omega arith)) at l.invariant) (omega arith))
 
 pub returns : goal.returns
 returns c =
