@@ -41,7 +41,7 @@ pub fn negative(n: usize, x: usize) -> usize
 
 // Whether n divides k·d.
 #[tactic(auto, unfolding(generator::specs::Shifts::is_even))]
-fn is_even(dimensions: Dimensions) -> bool
+pub fn is_even(dimensions: Dimensions) -> bool
     ensures { result ≡ is_even dimensions.n dimensions.k }
 {
     let n = dimensions.n as u32;
