@@ -42,7 +42,7 @@ impl RootPowers<'_> {
 }
 
 // The rows of all nodes. Each is cut by its place: after `chunks_mut` a proof knows the length alone (docs/PROOF-NOTES.md).
-fn fill_power_rows(code: Code, rows: &mut [u8])
+pub fn fill_power_rows(code: Code, rows: &mut [u8])
     requires { length rows.old ≡ width code.header * code.header.n * (code.header.n - code.header.k) }
     ensures { rows.new ≡ power_rows code.header }
 {
