@@ -1,9 +1,9 @@
 -- A test of all values of a function: one at a time.
 use mathlib.Core.Path.{◌≡◌, ap, sym, ◌∙◌}
-use mathlib.Core.Bool.{◌&&◌, and-true, and_assoc, and_comm}
+use mathlib.Core.Bool.{true, false, ◌&&◌, and-true, and_assoc, and_comm}
 use Prim.Native.Nat.{ℕ, ◌+◌, ◌-◌, ◌≤◌, ◌<◌, max}
 use native.Mathlib.Omega.{arith}
-use borrow.Author.Tests.{ltb-true, ltb-false}
+use borrow.Author.Tests.{lt-ltb, le-ltb, ltb-true, ltb-false}
 use lib.Dec.{ltb}
 use Rattle.lists.specs.Numbers.{all_below}
 use Rattle.lists.specs.Rows.{from}
@@ -25,6 +25,21 @@ ltb_max a b m =
     ap (λ x. ltb x m) is ∙ ltb_larger a b m (omega (arith, least)))
 
 module _ (m n : ℕ) (f : ℕ → ℕ) (i : ℕ) where
+  -- the next one passes ..
+  pub below_step : i < n → f i < m → all_below m (from f i (n - i)) ≡ all_below m (from f (i + 1) (n - (i + 1)))
+  unfolding all_below
+  below_step h low = rw (from_next f n i h, lt-ltb (f i) m low)
+
+  -- .. or fails ..
+  pub below_stop : i < n → m ≤ f i → all_below m (from f i (n - i)) ≡ false
+  unfolding all_below
+  below_stop h high = rw (from_next f n i h, le-ltb (f i) m high)
+
+  -- .. or there is none
+  pub below_none : n ≤ i → all_below m (from f i (n - i)) ≡ true
+  unfolding all_below
+  below_none h = rw (from_end f n i h)
+
   -- the largest so far and the next one
   pub below_larger : (a b : ℕ) → i < n → ltb a m ≡ (ltb b m && ltb (f i) m) → (ltb b m && all_below m (from f i (n - i))) ≡ (ltb a m && all_below m (from f (i + 1) (n - (i + 1))))
   unfolding all_below

@@ -42,6 +42,19 @@ impl Width {
         u16::from_be_bytes([s[at], s[at + 1]])
     }
 
+    // Whether all symbols of a buffer are below a size, one after the other up to the first that is not; `kernel::all_below` and `pairs_below`
+    // go through all of them in less time.
+    pub fn symbols_below(self, size: u32, s: &[u8]) -> bool
+        ensures { result ≡ all_below size (symbols_of self.bytes s.now) }
+    {
+        for i in 0..s.len() / self.bytes {
+            if size <= self.symbol_at(s, i) as u32 {
+                return false;
+            }
+        }
+        true
+    }
+
     // The symbols of a buffer that holds at most 255, and zeros after them.
     // An array with zeros after: the buffer tells how many symbols there are, so no length stands beside them.
     pub fn read_symbols(self, s: &[u8]) -> [u16; 255]
