@@ -8,7 +8,20 @@ use lib.ListN.{length}
 use borrow.Author.Tests.{lt-ltb, le-ltb}
 use Rattle.std.specs.Fmt as std
 use Rattle.std.proofs.lemmas.Fmt.{decimal_digit, decimal_step, length-decimal-le}
-use Rattle.text.specs.Text.{digit, decimal}
+use Rattle.text.specs.Text.{digit, decimal, field}
+
+-- a field of one, two or three digits
+pub one_digit : (x : ℕ) → x < 10 → field x ≡ 32 ∷ digit x ∷ []
+unfolding field decimal
+one_digit x low = rw (lt-ltb x 10)
+
+pub two_digits : (x : ℕ) → 10 ≤ x → x < 100 → field x ≡ 32 ∷ digit (x / 10) ∷ digit (x % 10) ∷ []
+unfolding field decimal
+two_digits x low high = rw (le-ltb x 10, lt-ltb x 100)
+
+pub three_digits : (x : ℕ) → 100 ≤ x → x < 1000 → field x ≡ 32 ∷ digit (x / 100) ∷ digit (x / 10 % 10) ∷ digit (x % 10) ∷ []
+unfolding field decimal
+three_digits x low high = rw (le-ltb x 10 (omega arith), le-ltb x 100, lt-ltb x 1000)
 
 -- one digit more
 step : (x : ℕ) (front : List ℕ) → 10 ≤ x → x < 100000 → std.decimal (x / 10) ≡ front → std.decimal x ≡ front ++ (digit (x % 10) ∷ [])
