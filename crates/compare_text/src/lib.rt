@@ -4,6 +4,7 @@
 mod bits;
 
 ghost use Rattle.std.specs.Prelude.{◌≡◌, ◌+◌, ◌*◌, ◌≤◌, ◌<◌, length, Ok};
+ghost use Rattle.lists.specs.Padded.{zeros};
 ghost use Rattle.generator.specs.Records.{record_of, distance};
 ghost use Rattle.generator.specs.Comparison.{plain_greatest, ComparedRecord};
 ghost use Rattle.text.specs.Writing.{OnPage};
@@ -14,7 +15,6 @@ use bits::{least_bits, trace_bits};
 use field::Field;
 use generator::{Code, Header};
 use records::{high_reads, low_reads, read_record};
-pub use text::page;
 use text::{FewDigits, Writer};
 
 // The greatest reads of a node of the plain layout.
@@ -109,6 +109,15 @@ fn write_comparison(writer: &mut Writer, code: Code)
     write_cost(writer, "balanced writes", writes, &[low_reads(code), high]);
     write_cost(writer, "bound writes", writes, &[high]);
     write_rebuild(writer, code);
+}
+
+// An empty page: zeros, with room for any comparison.
+#[tactic(auto, unfolding(lists::specs::Padded::zeros))]
+pub fn page() -> [u8; 152]
+    ensures zeros { result ≡ zeros 152 }
+    ensures long { 152 ≡ length result }
+{
+    [0; 152]
 }
 
 // Writes the comparison of a record at the front of a page, and gives its length (and no slice: see `written` of `Writer`). The figures are

@@ -2,6 +2,7 @@
 #![tactic(auto)]
 
 ghost use Rattle.std.specs.Prelude.{◌≡◌, ◌+◌, ◌≤◌, ◌<◌, length, Ok};
+ghost use Rattle.lists.specs.Padded.{zeros};
 ghost use Rattle.lists.specs.Rows.{range};
 ghost use Rattle.generator.specs.Records.{record_of};
 ghost use Rattle.text.specs.Writing.{OnPage};
@@ -13,7 +14,6 @@ use generator::{Code, Header};
 use node_weights::rebuild_weights;
 use records::read_record;
 use text::Writer;
-pub use text::page;
 
 // The plain layout of a code, and its first k nodes, which hold the message.
 #[derive(Drop)]
@@ -62,6 +62,15 @@ impl PlainLayout {
             self.write_node(writer, j);
         }
     }
+}
+
+// An empty page: zeros, with room for any plain layout.
+#[tactic(auto, unfolding(lists::specs::Padded::zeros))]
+pub fn page() -> [u8; 392459]
+    ensures zeros { result ≡ zeros 392459 }
+    ensures long { 392459 ≡ length result }
+{
+    [0; 392459]
 }
 
 // Writes the plain layout of a record's code at the front of a page, and gives its length (and no slice: see `written` of `Writer`). The

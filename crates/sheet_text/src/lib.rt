@@ -2,6 +2,7 @@
 #![tactic(auto)]
 
 ghost use Rattle.std.specs.Prelude.{◌≡◌, ◌+◌, ◌≤◌, ◌<◌, length};
+ghost use Rattle.lists.specs.Padded.{zeros};
 ghost use Rattle.lists.specs.Rows.{from};
 ghost use Rattle.generator.specs.Records.{record_of};
 ghost use Rattle.plan.specs.Plans.{entry_in};
@@ -13,7 +14,6 @@ ghost use Rattle.sheet_text.specs.Inner.Sheet.{sheet_of};
 
 use plan::{Plan, build_plan};
 use text::Writer;
-pub use text::page;
 
 // The sheet of a plan.
 #[derive(Drop)]
@@ -83,6 +83,15 @@ impl PlanSheet {
             self.write_row(writer, r);
         }
     }
+}
+
+// An empty page: zeros, with room for any sheet.
+#[tactic(auto, unfolding(lists::specs::Padded::zeros))]
+pub fn page() -> [u8; 394255]
+    ensures zeros { result ≡ zeros 394255 }
+    ensures long { 394255 ≡ length result }
+{
+    [0; 394255]
 }
 
 // Writes the sheet of a record at the front of a page, and gives its length (and no slice: see `written` of `Writer`). The page is lent,

@@ -2,6 +2,7 @@
 #![tactic(auto)]
 
 ghost use Rattle.std.specs.Prelude.{◌≡◌, true, false, [], ◌∷◌, ◌+◌, ◌≤◌, ◌<◌, length, MatchOption};
+ghost use Rattle.lists.specs.Padded.{zeros};
 ghost use Rattle.field.specs.Primes.{is_prime};
 ghost use Rattle.field.specs.Fields.{order_of};
 ghost use Rattle.text.specs.Text.{decimal, line};
@@ -11,7 +12,6 @@ ghost use Rattle.small_plans_text.specs.SmallPlans.{root_lines, field_lines, sma
 
 use field::{Field, is_prime};
 use text::Writer;
-pub use text::page;
 
 // A prime from 3 to 31.
 #[derive(Clone, Copy)]
@@ -117,6 +117,15 @@ fn write_plans(writer: &mut Writer)
     for p in 3..32 {
         write_field(writer, p);
     }
+}
+
+// An empty page: zeros, with room for the lines.
+#[tactic(auto, unfolding(lists::specs::Padded::zeros))]
+pub fn page() -> [u8; 501642]
+    ensures zeros { result ≡ zeros 501642 }
+    ensures long { 501642 ≡ length result }
+{
+    [0; 501642]
 }
 
 // Writes the lines at the front of a page, and gives their length (and no slice: see `written` of `Writer`). The page is lent, for the

@@ -3,6 +3,7 @@
 
 ghost use Rattle.std.specs.Prelude.{◌≡◌, true, [], ◌∷◌, ◌+◌, ◌*◌, ◌≤◌, ◌<◌, length, MatchResult};
 ghost use Rattle.lists.specs.Numbers.{all_below};
+ghost use Rattle.lists.specs.Padded.{zeros};
 ghost use Rattle.generator.specs.Answers.{number};
 ghost use Rattle.generator.specs.Records.{record_of};
 ghost use Rattle.text.specs.Text.{ascii, line};
@@ -12,7 +13,6 @@ ghost use Rattle.weights_text.specs.Weights.{count_line, count_lines, weights_fo
 
 use generator::Refusal;
 use records::read_record;
-pub use text::page;
 use text::{FewDigits, Writer};
 use weight_counts::counts_accepted;
 
@@ -54,6 +54,15 @@ fn write_weights(writer: &mut Writer, rec: &[u8]) -> Result<(), Refusal>
     counts_accepted(code, counts)?;
     write_counts(writer, counts);
     Ok(())
+}
+
+// An empty page: zeros, with room for any distribution.
+#[tactic(auto, unfolding(lists::specs::Padded::zeros))]
+pub fn page() -> [u8; 3072]
+    ensures zeros { result ≡ zeros 3072 }
+    ensures long { 3072 ≡ length result }
+{
+    [0; 3072]
 }
 
 // Writes the lines of a record at the front of a page, or what turns it away, and gives their length (and no slice: see `written` of
