@@ -12,7 +12,7 @@ use Rattle.lists.specs.Padded.{zeros, padded}
 use Rattle.lists.specs.Rows.{from}
 use Rattle.lists.proofs.Fill.{zeros_next}
 use Rattle.lists.proofs.Front.{drop_next, drop_before}
-use Rattle.lists.proofs.Numbers.{below_cons, cons_below, below_append, below_get_or}
+use Rattle.lists.proofs.Numbers.{below_cons, cons_below, below_append, below_get_or, below_drop}
 use Rattle.lists.proofs.Images.{from_self}
 use Rattle.lists.proofs.Padding.{length_padded}
 use Rattle.lists.proofs.Rows.{from_ext}
@@ -91,6 +91,17 @@ module _ (p : ℕ) where
   unfolding quotient_of
   quotient_of_end a cs = ap (quotient_of p a) (drop-length cs)
 
+  -- the division, from the highest coefficient down: q is coefficient i of the quotient
+  pub record Dividing (a : ℕ) (cs : List ℕ) (i q : ℕ) : Type 0 where
+    pub some : i ≤ length cs
+    pub first : q ≡ get_or (quotient_of p a (drop i cs)) 0 0
+
+  pub dividing_start : (a : ℕ) (cs : List ℕ) → Dividing a cs (length cs) 0
+  dividing_start a cs = record { some = omega arith; first = sym (ap (λ (l : List ℕ). get_or l 0 0) (quotient_of_end a cs)) }
+
+  pub dividing_next : {a : ℕ} {cs : List ℕ} {i q r : ℕ} → Dividing a cs i q → 0 < i → r ≡ add p (mul p a q) (get_or cs (i - 1) 0) → Dividing a cs (i - 1) r
+  dividing_next {a} {cs} {i} d pos e = record { some = omega (arith, d.some); first = e ∙ rw d.first (sym (quotient_first a cs i pos d.some)) }
+
   pub length_quotient_of : (a : ℕ) (cs : List ℕ) → length (quotient_of p a cs) ≡ length cs
   unfolding quotient_of
   length_quotient_of a [] = refl
@@ -154,6 +165,10 @@ module _ (p : ℕ) where
         let b = below_cons (size_of p) c cs h in
         let rest = quotient_of_below a cs la b.1 in
         cons_below (size_of p) (add p (mul p a (get_or (quotient_of p a cs) 0 0)) c) (quotient_of p a cs) (add_below p v (mul_below p v la (below_get_or (size_of p) (quotient_of p a cs) (size_pos p v) rest 0)) b.0) rest
+
+    -- each of its coefficients is a symbol while it is made
+    pub dividing_below : {a : ℕ} {cs : List ℕ} {i q : ℕ} → Dividing a cs i q → a < size_of p → Below cs → q < size_of p
+    dividing_below {a} {cs} {i} d la h = rw d.first (below_get_or (size_of p) _ (size_pos p v) (quotient_of_below a (drop i cs) la (below_drop (size_of p) i cs h)) 0)
 
     pub termwise_below : (cs ds : List ℕ) → Below cs → Below ds → Below (termwise p cs ds)
     unfolding termwise

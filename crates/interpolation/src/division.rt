@@ -13,7 +13,6 @@ use field::Field;
 
 impl Polynomial<'_, '_> {
     // The coefficients of the quotient by x − a of x times the polynomial plus any constant, from the highest down, and zeros after them.
-    #[tactic(auto, using(lists::proofs::Numbers::below_at))]
     pub fn quotient(self, a: u32) -> [u16; 255]
         requires { a < size_of (modulus self.field.field) }
         ensures { result ≡ padded 255 (quotient_of (modulus self.entry.field.field) a self.entry.coefficients.now) }
