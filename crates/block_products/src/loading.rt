@@ -18,8 +18,8 @@ pub fn pick_bytes<const W: usize, const V: usize>(part: &[u8], out: &mut [u8])
     requires long { length part.now ≡ length out.old * W }
     ensures { out.new ≡ from (λ q. get_or part.now (q * W + V) 0) 0 (length out.old) }
 {
-    for (q, byte) in out.iter_mut().enumerate() {
-        *byte = part[q * W + V];
+    for q in 0..out.len() {
+        out[q] = part[q * W + V];
     }
 }
 

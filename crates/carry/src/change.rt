@@ -17,7 +17,7 @@ pub fn replace(at: usize, part: &[u8], s: &mut [u8])
     ensures { s.new ≡ part_replaced at part.now s.old }
 {
     let end = at + part.len();
-    s[at..end].copy_from_slice(part);
+    kernel::copy(part, &mut s[at..end]);
 }
 
 // The bytes of a group, a part of them replaced.

@@ -54,7 +54,7 @@ impl Carrying {
         ensures { out.new ≡ carried_bytes (field_of self) bytes.now }
     {
         match self {
-            Carrying::Bytes => out.copy_from_slice(bytes),
+            Carrying::Bytes => kernel::copy(bytes, out),
             Carrying::Words(prime) => prime.close_groups(bytes, out),
         }
     }
@@ -66,7 +66,7 @@ impl Carrying {
         ensures { out.new ≡ bytes_back (field_of self) (length out.old) symbols.now }
     {
         match self {
-            Carrying::Bytes => out.copy_from_slice(symbols),
+            Carrying::Bytes => kernel::copy(symbols, out),
             Carrying::Words(prime) => prime.open_groups(symbols, out),
         }
     }

@@ -26,6 +26,17 @@ fn largest(s: &[u8]) -> Option<u8>
     s.iter().copied().max()
 }
 
+// Copies a row. By the place: `out.copy_from_slice(row)`, and a loop over `out.iter_mut()`, become a call of memmove, which the library would
+// want from outside.
+pub fn copy(row: &[u8], out: &mut [u8])
+    requires { length row.now ≡ length out.old }
+    ensures { out.new ≡ row.now }
+{
+    for t in 0..out.len() {
+        out[t] = row[t];
+    }
+}
+
 // N times x. Its length is all that a caller is told: an array of zeros that a proof sees is read element by element.
 pub fn filled<T: Copy, const N: usize>(x: T) -> [T; N]
     ensures { length result ≡ N }
