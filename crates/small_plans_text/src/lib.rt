@@ -44,9 +44,10 @@ impl SmallPrime {
         ensures most { result ≤ self.p }
     {
         let field = Field::new(u32::from(self.p));
-        for n in 1..=self.p {
-            if field.has_order(u32::from(root), u32::from(n)) {
-                return n;
+        // From p down, as the orders of most roots are large.
+        for n in (0..self.p).rev() {
+            if field.has_order(u32::from(root), u32::from(n) + 1) {
+                return n + 1;
             }
         }
         0
