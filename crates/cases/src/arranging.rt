@@ -2,16 +2,16 @@
 use crate::block_words::block;
 use balanced::Refusal;
 use test_calls::written;
-use test_tools::MARK;
 use test_words::{Fault, Words};
 
 pub fn arrange<F: FnOnce(&[u8], u32, &[u8], &mut [u8]) -> Result<(), Refusal>>(
+    rt: &impl Print,
     words: &mut Words,
     call: F,
-) -> Result<String, Fault>
+) -> Result<(), Fault>
     requires { F.IsAlwaysCallable call }
 {
     let (record, lanes) = block(words)?;
     let shares = words.bytes("shares")?;
-    written(words, MARK, |out| call(&record, lanes, &shares, out))
+    written(rt, words, |out| call(&record, lanes, &shares, out))
 }

@@ -1,11 +1,13 @@
 // The first words of a call on a block.
-ghost use Rattle.std.specs.Prelude.{◌≤◌, IfOk, vec_len};
+ghost use Rattle.std.specs.Prelude.{◌≤◌, IfOk};
+ghost use Rattle.arrayvec.specs.ArrayVec.{array_vec_len};
 
+use arrayvec::ArrayVec;
 use test_words::{Fault, Words};
 
 // The record and the number of lanes.
-pub fn block(words: &mut Words) -> Result<(Vec<u8>, u32), Fault>
-    ensures { IfOk result (λ block. vec_len block.0 ≤ 64) }
+pub fn block(words: &mut Words) -> Result<(ArrayVec<u8, 64>, u32), Fault>
+    ensures { IfOk result (λ block. array_vec_len block.0 ≤ 64) }
 {
     let record = words.record()?;
     let lanes = words.number("lanes")?;

@@ -1,42 +1,42 @@
 // Calls that carry bytes in symbols, and the one that gives a record for n nodes of which k are needed.
 use crate::shares::lend;
 use balanced::Refusal;
-use std::alloc::{AllocError, Global};
-use test_calls::{Refused, done, last_buffer, turned_away, written};
+use test_calls::{Refused, answered, done, last_buffer, turned_away, written};
 use test_tools::{List, MARK, untouched};
 use test_words::{Fault, Words};
 
 // How many bytes of symbols carry so many, or what turned the call away.
-fn length(alloc: Global, answer: Result<usize, Refusal>) -> Result<String, AllocError> {
+fn length(rt: &impl Print, answer: Result<usize, Refusal>) -> Result<(), Fault> {
     match answer {
-        Ok(length) => format!(in alloc; "length {length}"),
-        Err(refusal) => format!(in alloc; "{}", Refused(refusal)),
+        Ok(length) => answered(rt, format_args!("length {length}")),
+        Err(refusal) => answered(rt, Refused(refusal)),
     }
 }
 
-pub fn carried_len(words: &mut Words) -> Result<String, Fault> {
+pub fn carried_len(rt: &impl Print, words: &mut Words) -> Result<(), Fault> {
     let record = words.record()?;
     let count = words.number("count")?;
     words.end()?;
     let answer = balanced::carried_len(&record, count as usize);
-    Ok(length(words.alloc(), answer)?)
+    length(rt, answer)
 }
 
 // Bytes written as symbols, or bytes that symbols carry: the list that is read has this word.
 pub fn carry<F: FnOnce(&[u8], &[u8], &mut [u8]) -> Result<(), Refusal>>(
+    rt: &impl Print,
     words: &mut Words,
     word: &'static str,
     call: F,
-) -> Result<String, Fault>
+) -> Result<(), Fault>
     requires { F.IsAlwaysCallable call }
 {
     let record = words.record()?;
     let given = words.bytes(word)?;
-    written(words, MARK, |out| call(&record, &given, out))
+    written(rt, words, |out| call(&record, &given, out))
 }
 
 // Bytes changed where symbols carry them.
-pub fn carry_change(words: &mut Words) -> Result<String, Fault> {
+pub fn carry_change(rt: &impl Print, words: &mut Words) -> Result<(), Fault> {
     let record = words.record()?;
     let count = words.number("count")?;
     let at = words.number("at")?;
@@ -45,23 +45,23 @@ pub fn carry_change(words: &mut Words) -> Result<String, Fault> {
     words.end()?;
     let (answer, after, kept) = lend(symbols, |symbols| {
         balanced::carry_change(&record, count as usize, at as usize, &bytes, symbols)
-    })?;
-    done(words.alloc(), answer, &after, kept)
+    });
+    done(rt, answer, &after, kept)
 }
 
 // How many bytes the record has, and the room with it in front; or what turned the call away and whether every byte is as it was.
-fn chosen(alloc: Global, answer: Result<u8, Refusal>, out: &[u8]) -> Result<String, Fault> {
+fn chosen(rt: &impl Print, answer: Result<u8, Refusal>, out: &[u8]) -> Result<(), Fault> {
     match answer {
-        Ok(length) => Ok(format!(in alloc; "length {length} record{}", List(out))?),
-        Err(refusal) => turned_away(alloc, refusal, untouched(MARK, out)),
+        Ok(length) => answered(rt, format_args!("length {length} record{}", List(out))),
+        Err(refusal) => turned_away(rt, refusal, untouched(MARK, out)),
     }
 }
 
 // The line has no record.
-pub fn choose(words: &mut Words) -> Result<String, Fault> {
+pub fn choose(rt: &impl Print, words: &mut Words) -> Result<(), Fault> {
     let n = words.number("n")?;
     let k = words.number("k")?;
     let mut out = last_buffer(words, MARK)?;
     let answer = balanced::choose_record(n, k, &mut out);
-    chosen(words.alloc(), answer, &out)
+    chosen(rt, answer, &out)
 }

@@ -1,8 +1,7 @@
 // The call on listed shares of which some are wrong.
 use crate::block_words::block;
 use balanced::Refusal;
-use std::alloc::Global;
-use test_calls::{buffer, last_buffer, turned_away};
+use test_calls::{answered, buffer, last_buffer, turned_away};
 use test_tools::{List, MARK, untouched};
 use test_words::{Fault, Words};
 
@@ -11,26 +10,29 @@ const NO_COUNT: u32 = 43690;
 
 // How many symbols were wrong, the message and the counts, or what turned the call away and whether both are as they were.
 fn settled(
-    alloc: Global,
+    rt: &impl Print,
     answer: Result<u32, Refusal>,
     message: &[u8],
     wrong: &[u32],
-) -> Result<String, Fault> {
+) -> Result<(), Fault> {
     match answer {
-        Ok(count) => Ok(format!(in alloc;
-            "altered {count} message{} wrong{}",
-            List(message),
-            List(wrong)
-        )?),
+        Ok(count) => answered(
+            rt,
+            format_args!(
+                "altered {count} message{} wrong{}",
+                List(message),
+                List(wrong)
+            ),
+        ),
         Err(refusal) => {
             let kept = untouched(MARK, message) && untouched(NO_COUNT, wrong);
-            turned_away(alloc, refusal, kept)
+            turned_away(rt, refusal, kept)
         }
     }
 }
 
 // The lists are lent with room for so many bytes of the message, and for so many counts.
-pub fn correct(words: &mut Words) -> Result<String, Fault> {
+pub fn correct(rt: &impl Print, words: &mut Words) -> Result<(), Fault> {
     let (record, lanes) = block(words)?;
     let nodes = words.bytes("nodes")?;
     let shares = words.bytes("shares")?;
@@ -44,5 +46,5 @@ pub fn correct(words: &mut Words) -> Result<String, Fault> {
         &mut message,
         &mut wrong,
     );
-    settled(words.alloc(), answer, &message, &wrong)
+    settled(rt, answer, &message, &wrong)
 }

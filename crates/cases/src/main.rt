@@ -4,7 +4,7 @@
 
 use balanced::Roster;
 use calls::call;
-use std::io::{self, BufRead, BufReader, Read};
+use std::io;
 use test_calls::rosters::nobody;
 use test_tools::not_read;
 use test_words::is_comment;
@@ -18,24 +18,14 @@ mod listed;
 mod repairs;
 mod shares;
 
-// The most bytes of calls that are read.
-const MOST: u64 = 262_144;
-
-// A byte that is no text stands in a word that no call has.
-fn answer_call(
-    rt: &(impl Print + AllocGlobal),
-    line: &[u8],
-    roster: &mut Roster,
-) -> io::Result<()> {
-    let alloc = rt.alloc();
-    let text = String::from_utf8_lossy(alloc, line)?;
-    match call(alloc, &text, roster) {
-        Ok(answer) => print!(rt; ": {answer}"),
+fn answer_call(rt: &impl Print, line: &[u8], roster: &mut Roster) -> io::Result<()> {
+    match call(rt, line, roster) {
+        Ok(()) => Ok(()),
         Err(fault) => not_read(rt, "call", fault),
     }
 }
 
-fn answer(rt: &(impl Print + AllocGlobal), line: &[u8], roster: &mut Roster) -> io::Result<()> {
+fn answer(rt: &impl Print, line: &[u8], roster: &mut Roster) -> io::Result<()> {
     rt.write_all(line)?;
     if !is_comment(line) {
         answer_call(rt, line, roster)?;
@@ -44,12 +34,22 @@ fn answer(rt: &(impl Print + AllocGlobal), line: &[u8], roster: &mut Roster) -> 
 }
 
 // At first there is a roster with no node.
-fn main(rt: HostRuntime) -> io::Result<()> {
-    let alloc = rt.alloc();
+fn answers(rt: &impl Print, input: &[u8]) -> io::Result<()> {
     let mut roster = nobody();
-    let input = BufReader::new(alloc, rt.reader().take(MOST))?;
-    for line in input.split(alloc, b'\n') {
-        answer(&rt, &line?, &mut roster)?;
+    for line in input.split_inclusive(|b| *b == b'\n') {
+        answer(rt, line.strip_suffix(b"\n").unwrap_or(line), &mut roster)?;
     }
     Ok(())
+}
+
+// Room for all calls.
+fn room() -> [u8; 262_144] {
+    [0; 262_144]
+}
+
+// All calls are read before the first answer is written.
+fn main(rt: HostRuntime) -> io::Result<()> {
+    let mut input = room();
+    let size = input::read_full(&rt, &mut input)?;
+    answers(&rt, &input[..size])
 }

@@ -1,45 +1,43 @@
 // Calls of a repair by traces.
 use crate::block_words::block;
 use balanced::{Refusal, RepairPlan};
-use std::alloc::{AllocError, Global};
-use test_calls::{Refused, written};
-use test_tools::MARK;
+use test_calls::{Refused, answered, written};
 use test_words::{Fault, Words};
 
 // What a node sends.
-pub fn bits(words: &mut Words) -> Result<String, Fault> {
+pub fn bits(rt: &impl Print, words: &mut Words) -> Result<(), Fault> {
     let (record, lanes) = block(words)?;
     let node = words.number("node")?;
     let target = words.number("target")?;
     let missing = words.bytes("missing")?;
     let share = words.bytes("share")?;
-    written(words, MARK, |out| {
+    written(rt, words, |out| {
         balanced::repair_bits(&record, lanes, node, target, &missing, &share, out)
     })
 }
 
 // The target's share.
-pub fn share(words: &mut Words) -> Result<String, Fault> {
+pub fn share(rt: &impl Print, words: &mut Words) -> Result<(), Fault> {
     let (record, lanes) = block(words)?;
     let target = words.number("target")?;
     let missing = words.bytes("missing")?;
     let rows = words.bytes("rows")?;
-    written(words, MARK, |out| {
+    written(rt, words, |out| {
         balanced::repair_share(&record, lanes, target, &missing, &rows, out)
     })
 }
 
 // How many bits each node sends and how many further nodes may be missing, or what turned the call away.
-fn planned(alloc: Global, answer: Result<RepairPlan, Refusal>) -> Result<String, AllocError> {
+fn planned(rt: &impl Print, answer: Result<RepairPlan, Refusal>) -> Result<(), Fault> {
     match answer {
-        Ok(RepairPlan { bits, spare }) => format!(in alloc; "bits {bits} spare {spare}"),
-        Err(refusal) => format!(in alloc; "{}", Refused(refusal)),
+        Ok(RepairPlan { bits, spare }) => answered(rt, format_args!("bits {bits} spare {spare}")),
+        Err(refusal) => answered(rt, Refused(refusal)),
     }
 }
 
-pub fn plan(words: &mut Words) -> Result<String, Fault> {
+pub fn plan(rt: &impl Print, words: &mut Words) -> Result<(), Fault> {
     let record = words.record()?;
     let count = words.number("count")?;
     words.end()?;
-    Ok(planned(words.alloc(), balanced::repair_plan(&record, count))?)
+    planned(rt, balanced::repair_plan(&record, count))
 }

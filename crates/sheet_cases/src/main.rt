@@ -2,20 +2,17 @@
 // it no record. An empty line or a comment is written as it is.
 #![tactic(auto)]
 
+use arrayvec::ArrayVec;
 use compare_text::comparison;
 use input::print_text;
 use sheet_text::sheet;
-use std::alloc::Global;
-use std::io::{self, BufRead, BufReader, Read};
+use std::io;
 use test_tools::not_read;
 use test_words::{Fault, Words, is_comment};
 
-// The most bytes of records that are read.
-const MOST: u64 = 4096;
-
 // The record of a line.
-fn read(alloc: Global, line: &str) -> Result<Vec<u8>, Fault> {
-    let mut words = Words::new(alloc, line);
+fn read(line: &[u8]) -> Result<ArrayVec<u8, 64>, Fault> {
+    let mut words = Words::new(line);
     if words.name() != "record" {
         return Err(Fault::UnknownCall);
     }
@@ -24,11 +21,9 @@ fn read(alloc: Global, line: &str) -> Result<Vec<u8>, Fault> {
     Ok(record)
 }
 
-// The sheet and the comparison of the record of a line. A byte that is no text stands in a word that is unknown.
-fn answer_record(rt: &(impl Print + AllocGlobal), line: &[u8]) -> io::Result<()> {
-    let alloc = rt.alloc();
-    let text = String::from_utf8_lossy(alloc, line)?;
-    match read(alloc, &text) {
+// The sheet and the comparison of the record of a line.
+fn answer_record(rt: &impl Print, line: &[u8]) -> io::Result<()> {
+    match read(line) {
         Ok(record) => {
             rt.write_all(b"\n")?;
             print_text(rt, &record, &mut sheet_text::page(), sheet)?;
@@ -41,9 +36,9 @@ fn answer_record(rt: &(impl Print + AllocGlobal), line: &[u8]) -> io::Result<()>
     }
 }
 
-// `answer` and `main` stand in cases too, where a roster goes from line to line and the line feed stands elsewhere: one loop for both
+// `answer` and `answers` stand in cases too, where a roster goes from line to line and the line feed stands elsewhere: one loop for both
 // programs would take what it keeps and what it asks as parameters.
-fn answer(rt: &(impl Print + AllocGlobal), line: &[u8]) -> io::Result<()> {
+fn answer(rt: &impl Print, line: &[u8]) -> io::Result<()> {
     rt.write_all(line)?;
     if is_comment(line) {
         return rt.write_all(b"\n");
@@ -51,11 +46,16 @@ fn answer(rt: &(impl Print + AllocGlobal), line: &[u8]) -> io::Result<()> {
     answer_record(rt, line)
 }
 
-fn main(rt: HostRuntime) -> io::Result<()> {
-    let alloc = rt.alloc();
-    let input = BufReader::new(alloc, rt.reader().take(MOST))?;
-    for line in input.split(alloc, b'\n') {
-        answer(&rt, &line?)?;
+fn answers(rt: &impl Print, input: &[u8]) -> io::Result<()> {
+    for line in input.split_inclusive(|b| *b == b'\n') {
+        answer(rt, line.strip_suffix(b"\n").unwrap_or(line))?;
     }
     Ok(())
+}
+
+// All records are read before the first answer is written.
+fn main(rt: HostRuntime) -> io::Result<()> {
+    let mut input = [0; 4096];
+    let size = input::read_full(&rt, &mut input)?;
+    answers(&rt, &input[..size])
 }

@@ -1,6 +1,5 @@
-// Texts of answers, and the number of what turned a call away.
+// Answers as texts behind the line of their call, and the number of what turned a call away.
 use generator::Refusal;
-use std::alloc::Global;
 use std::fmt;
 use std::fmt::Display;
 use test_tools::{List, change};
@@ -17,21 +16,27 @@ impl Display for Refused {
     }
 }
 
+// Prints what a call answered.
+pub fn answered<D: Display + Drop>(rt: &impl Print, answer: D) -> Result<(), Fault> {
+    print!(rt; ": {answer}")?;
+    Ok(())
+}
+
 // What turned the call away, and whether everything that was lent is as it was. Where nothing is lent the last arm of a match says the number:
-// `answered(alloc, answer, |found| match found { .. })` would take that arm away, and bring a closure, its bound and its clause.
-pub fn turned_away(alloc: Global, refusal: Refusal, kept: bool) -> Result<String, Fault> {
-    Ok(format!(in alloc; "{}, {}", Refused(refusal), change(kept))?)
+// `told(rt, answer, |found| match found { .. })` would take that arm away, and bring a closure, its bound and its clause.
+pub fn turned_away(rt: &impl Print, refusal: Refusal, kept: bool) -> Result<(), Fault> {
+    answered(rt, format_args!("{}, {}", Refused(refusal), change(kept)))
 }
 
 // What a lent buffer holds after the call, or what turned the call away.
 pub fn done<T: Display>(
-    alloc: Global,
+    rt: &impl Print,
     answer: Result<(), Refusal>,
     after: &[T],
     kept: bool,
-) -> Result<String, Fault> {
+) -> Result<(), Fault> {
     match answer {
-        Ok(()) => Ok(format!(in alloc; "done{}", List(after))?),
-        Err(refusal) => turned_away(alloc, refusal, kept),
+        Ok(()) => answered(rt, format_args!("done{}", List(after))),
+        Err(refusal) => turned_away(rt, refusal, kept),
     }
 }

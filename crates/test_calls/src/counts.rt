@@ -1,13 +1,15 @@
 // Messages by the Hamming weight of their word.
-use crate::written;
+use crate::{done, last_buffer};
+use test_tools::untouched;
 use test_words::{Fault, Words};
 
 // What every place of the list of counts holds before the call.
 const MARK: u32 = 43690;
 
-pub fn weights(words: &mut Words) -> Result<String, Fault> {
+pub fn weights(rt: &impl Print, words: &mut Words) -> Result<(), Fault> {
     let record = words.record()?;
-    written(words, MARK, |counts| {
-        weight_counts::weight_counts(&record, counts)
-    })
+    let mut counts = last_buffer(words, MARK)?;
+    let answer = weight_counts::weight_counts(&record, &mut counts);
+    let kept = untouched(MARK, &counts);
+    done(rt, answer, &counts, kept)
 }

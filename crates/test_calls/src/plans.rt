@@ -1,8 +1,10 @@
 // A record's plan, or what turns the record away.
-use crate::Refused;
+ghost use Rattle.std.specs.Prelude.{◌≤◌, length};
+
+use crate::{Refused, answered};
+use arrayvec::ArrayVec;
 use generator::Refusal;
 use plan::Plan;
-use std::alloc::{AllocError, Global};
 use std::fmt;
 use test_tools::{Block, untouched};
 use test_words::{Fault, Words};
@@ -34,20 +36,24 @@ impl fmt::Display for Front<'_> {
 
 // The bytes of symbols: two each where they are wide, the high one first, else one, which is 255 for a symbol that no byte holds.
 // A width in place of the bool would be made of the same test of the first byte, and be taken apart again by `if width == 2`.
-fn bytes_of(alloc: Global, symbols: &[u16], wide: bool) -> Result<Vec<u8>, AllocError> {
-    let mut bytes = Vec::new(alloc);
+fn bytes_of(symbols: &[u16], wide: bool) -> ArrayVec<u8, 510>
+    requires { length symbols.now ≤ 255 }
+{
+    let mut bytes = ArrayVec::new();
     for x in symbols {
         if wide {
-            bytes.extend_from_slice(&x.to_be_bytes())?;
+            let [high, low] = x.to_be_bytes();
+            bytes.push(high);
+            bytes.push(low);
         } else {
-            bytes.push(u8::try_from(*x).unwrap_or(255))?;
+            bytes.push(u8::try_from(*x).unwrap_or(255));
         }
     }
-    Ok(bytes)
+    bytes
 }
 
 // The numbers, the shifts, the first nodes and the base word.
-fn accepted(alloc: Global, plan: &Plan, wide: bool) -> Result<String, AllocError> {
+fn accepted(rt: &impl Print, plan: &Plan, wide: bool) -> Result<(), Fault> {
     let Plan {
         n,
         k,
@@ -57,30 +63,33 @@ fn accepted(alloc: Global, plan: &Plan, wide: bool) -> Result<String, AllocError
         ..
     } = *plan;
     let (word, rest) = plan.base.split_at(n as usize);
-    let bytes = bytes_of(alloc, word, wide)?;
+    let bytes = bytes_of(word, wide);
     let shifts = Front::new(&plan.shifts, k);
     let firsts = Front::new(&plan.firsts, k);
     let base = Front {
         list: &bytes,
         padded: untouched(0, rest),
     };
-    format!(in alloc;
-        "n {n} k {k} d {d} reads {low} {high} shifts{shifts} firsts{firsts} base{base}"
+    answered(
+        rt,
+        format_args!(
+            "n {n} k {k} d {d} reads {low} {high} shifts{shifts} firsts{firsts} base{base}"
+        ),
     )
 }
 
 // The plan, or what turned the record away. Then there are no places: that all are 0 is what the reference writes of them.
-fn planned(alloc: Global, answer: Result<Plan, Refusal>, wide: bool) -> Result<String, AllocError> {
+fn planned(rt: &impl Print, answer: Result<Plan, Refusal>, wide: bool) -> Result<(), Fault> {
     match answer {
-        Ok(plan) => accepted(alloc, &plan, wide),
-        Err(refusal) => format!(in alloc; "{}, all places 0", Refused(refusal)),
+        Ok(plan) => accepted(rt, &plan, wide),
+        Err(refusal) => answered(rt, format_args!("{}, all places 0", Refused(refusal))),
     }
 }
 
 // A symbol has two bytes in a record of kind 3, and else one.
-pub fn plan(words: &mut Words) -> Result<String, Fault> {
+pub fn plan(rt: &impl Print, words: &mut Words) -> Result<(), Fault> {
     let record = words.record()?;
     words.end()?;
     let wide = record.first() == Some(&3);
-    Ok(planned(words.alloc(), plan::build_plan(&record), wide)?)
+    planned(rt, plan::build_plan(&record), wide)
 }

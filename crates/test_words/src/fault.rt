@@ -1,9 +1,10 @@
 // What is wrong with a line that is no call.
-use std::alloc::AllocError;
+use arrayvec::ArrayString;
+use std::io;
 use thiserror::Error;
 
-// The first fault from the left; or there is no memory to read the line. A word is a text of its own here: with a lent one, `&'static str`, the
-// borrow checker does not cover the calls that take a closure and answer with a fault.
+// The first fault from the left; or the answer could not be written. A word is a copy of its own here: with a lent one, `&'static str`, the
+// borrow checker does not cover the functions that answer with a fault.
 #[derive(Debug, Drop, Error)]
 pub enum Fault {
     #[error("unknown call")]
@@ -12,10 +13,10 @@ pub enum Fault {
     UnknownWord,
     // The word that stands nowhere.
     #[error("{0} is missing")]
-    MissingWord(String),
+    MissingWord(ArrayString<16>),
     // The word with no number after it.
     #[error("{0} has no number")]
-    MissingNumber(String),
+    MissingNumber(ArrayString<16>),
     #[error("too many numbers")]
     TooManyNumbers,
     #[error("number too large")]
@@ -23,5 +24,5 @@ pub enum Fault {
     #[error("too much room")]
     TooMuchRoom,
     #[error(transparent)]
-    NoMemory(#[from(alloc)] AllocError),
+    Unwritten(#[from] io::Error),
 }

@@ -1,10 +1,10 @@
 // The words of a line, from left to right.
-ghost use Rattle.std.specs.Prelude.{◌≡◌, ◌≤◌, ◌↔◌, IsTrue, IfSome, IfOk, slice_get, vec_len};
+ghost use Rattle.std.specs.Prelude.{◌≡◌, ◌≤◌, ◌↔◌, IsTrue, IfSome, IfOk, length, slice_get};
+ghost use Rattle.arrayvec.specs.ArrayVec.{array_vec_len};
 
 use crate::Fault;
-use std::alloc::{AllocError, Global};
-use std::iter::Peekable;
-use std::str::{FromStr, Split};
+use arrayvec::{ArrayString, ArrayVec};
+use std::str::{self, FromStr};
 
 // The most numbers of a list, and the most room for one that is written.
 const MOST: usize = 64;
@@ -20,66 +20,90 @@ fn is_number(word: &str) -> bool {
     !word.is_empty() && word.bytes().all(|b| b.is_ascii_digit())
 }
 
-// The words that are still to be read.
-#[derive(Drop)]
+// A copy of a word of a call, for which there is room: none has more than 16 bytes.
+fn copy(word: &str) -> ArrayString<16>
+    ensures { length word.now ≤ 16 → result.bytes ≡ word.now }
+{
+    ArrayString::from(word).unwrap_or(ArrayString::new())
+}
+
+// The words that are still to be read; none where the last one has been.
+#[derive(Clone, Copy)]
 pub struct Words<'a> {
-    alloc: Global,
-    rest: Peekable<Split<'a, char>>,
+    rest: Option<&'a [u8]>,
 }
 
 impl<'a> Words<'a> {
-    pub fn new(alloc: Global, line: &'a str) -> Words<'a> {
-        Words {
-            alloc,
-            rest: line.split(' ').peekable(),
-        }
+    pub fn new(line: &'a [u8]) -> Words<'a> {
+        Words { rest: Some(line) }
     }
 
-    // Lends the memory in which the lists of the line lie, and the texts that are made of them.
-    pub fn alloc(&self) -> Global {
-        self.alloc
+    // The next word.
+    fn peek(&self) -> Option<&'a [u8]> {
+        self.rest?.split(|b| *b == b' ').next()
     }
 
-    // The first word of the line.
+    // Goes past the next word.
+    fn next(&mut self) -> Option<&'a [u8]> {
+        let word = self.peek()?;
+        self.rest = self.rest?.get(word.len() + 1..);
+        Some(word)
+    }
+
+    // The first word of the line. A byte that is no text stands in a name that no call has.
     pub fn name(&mut self) -> &'a str {
-        self.rest.next().unwrap_or("")
+        let name = self.next().unwrap_or(b"");
+        str::from_utf8(name).unwrap_or("")
     }
 
     // What is wrong where another word than this one stands: this one is missing, or the other one is unknown there.
-    fn misplaced(&mut self, word: &str) -> Result<Fault, AllocError> {
-        if self.rest.any(|next| next == word) {
-            Ok(Fault::UnknownWord)
+    fn misplaced(&self, word: &str) -> Fault {
+        let rest = self.rest.unwrap_or(b"");
+        if rest
+            .split(|b| *b == b' ')
+            .any(|next| next == word.as_bytes())
+        {
+            Fault::UnknownWord
         } else {
-            Ok(Fault::MissingWord(String::from_str(self.alloc, word)?))
+            Fault::MissingWord(copy(word))
         }
     }
 
     // Goes past the next word, which must be this one.
     fn pass(&mut self, word: &str) -> Result<(), Fault> {
-        match self.rest.next() {
-            Some(next) if next == word => Ok(()),
-            _ => Err(self.misplaced(word)?),
+        match self.next() {
+            Some(next) if next == word.as_bytes() => Ok(()),
+            _ => Err(self.misplaced(word)),
         }
     }
 
     // The next word, if it is a number.
     fn numeral(&mut self) -> Option<&'a str> {
-        self.rest.next_if(|word| is_number(word))
+        let word = str::from_utf8(self.peek()?).ok()?;
+        if !is_number(word) {
+            return None;
+        }
+        self.next();
+        Some(word)
     }
 
     // The numbers that follow, at most so many.
-    fn numbers<T: FromStr + Drop>(&mut self, most: usize) -> Result<Vec<T>, Fault>
+    fn numbers<T: FromStr + Default + Drop>(
+        &mut self,
+        most: usize,
+    ) -> Result<ArrayVec<T, 64>, Fault>
     where
         T::Err: Drop,
-        ensures { IfOk result (λ v. vec_len v ≤ most) }
+        requires { most ≤ 64 }
+        ensures { IfOk result (λ v. array_vec_len v ≤ most) }
     {
-        let mut numbers = Vec::new(self.alloc);
+        let mut numbers = ArrayVec::new();
         for _ in 0..most {
             let Some(numeral) = self.numeral() else {
                 return Ok(numbers);
             };
             let number = numeral.parse().or(Err(Fault::LargeNumber))?;
-            numbers.push(number)?;
+            numbers.push(number);
         }
         match self.numeral() {
             None => Ok(numbers),
@@ -88,15 +112,15 @@ impl<'a> Words<'a> {
     }
 
     // The bytes of the record, which has no word of its own.
-    pub fn record(&mut self) -> Result<Vec<u8>, Fault>
-        ensures { IfOk result (λ v. vec_len v ≤ 64) }
+    pub fn record(&mut self) -> Result<ArrayVec<u8, 64>, Fault>
+        ensures { IfOk result (λ v. array_vec_len v ≤ 64) }
     {
         self.numbers(MOST)
     }
 
     // A word and bytes.
-    pub fn bytes(&mut self, word: &str) -> Result<Vec<u8>, Fault>
-        ensures { IfOk result (λ v. vec_len v ≤ 64) }
+    pub fn bytes(&mut self, word: &str) -> Result<ArrayVec<u8, 64>, Fault>
+        ensures { IfOk result (λ v. array_vec_len v ≤ 64) }
     {
         self.pass(word)?;
         self.numbers(MOST)
@@ -105,9 +129,9 @@ impl<'a> Words<'a> {
     // A word and one number.
     pub fn number(&mut self, word: &str) -> Result<u32, Fault> {
         self.pass(word)?;
-        match self.numbers(1)?.pop() {
-            Some(number) => Ok(number),
-            None => Err(Fault::MissingNumber(String::from_str(self.alloc, word)?)),
+        match self.numbers(1)?.first() {
+            Some(number) => Ok(*number),
+            None => Err(Fault::MissingNumber(copy(word))),
         }
     }
 
@@ -124,7 +148,7 @@ impl<'a> Words<'a> {
 
     // Every word has been read.
     pub fn end(&mut self) -> Result<(), Fault> {
-        match self.rest.next() {
+        match self.next() {
             None => Ok(()),
             Some(_) => Err(Fault::UnknownWord),
         }

@@ -1,0 +1,6 @@
+use Rattle.std.proofs.Common.{◌≤◌}
+use Rattle.arrayvec.specs.ArrayVec.{array_vec_len}
+use Rattle.test_calls.proofs.buffers.buffer.Given as goal
+
+abbrev pub invariant-loop : goal.invariant-loop
+invariant-loop g l = array_vec_len l.buffer ≤ l.counter
