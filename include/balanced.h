@@ -55,7 +55,7 @@
  *   overlap, or be one.
  * - Threads. There is no state outside the buffers. Calls may run at the same time in any number of threads as long as
  *   none writes what another reads or writes.
- * - Memory. No call allocates. Each takes less than 664 KiB of stack (measured; Recover takes most); Update less than 24 KiB, the plan and balanced_find_update less than 16 KiB.
+ * - Memory. No call allocates. Each takes less than 664 KiB of stack (measured; balanced_correct_listed and Recover take most); Update less than 24 KiB, the plan and balanced_find_update less than 16 KiB.
  *
  * A call always returns: none reads or writes a file, waits, or ends the program.
  */
