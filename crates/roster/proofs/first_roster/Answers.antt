@@ -1,13 +1,21 @@
--- `first_roster` meets its contract.
-use Rattle.std.proofs.Common.{rules}
-use Rattle.std.specs.Prelude.{◌≡◌, false, ltb}
+-- `first_roster` meets its contract: one mark more.
+use Rattle.std.proofs.Common.{arith}
 use mathlib.Core.Path.{refl}
+use Rattle.lists.proofs.Rows.{from_next, from_end}
+use Rattle.lists.proofs.Fill.{fills_start, fills_put, fills_all}
 use Rattle.roster.specs.Rosters.{first_roster, first_marks}
-use Rattle.lists.proofs.Made.{made_by_index}
 use Rattle.roster.proofs.first_roster.Goals as goal
 
+pub loop-j-init : goal.loop-j-init
+unfolding first_marks
+loop-j-init c = fills_start _ _
+
+pub loop-j-preserved : goal.loop-j-preserved
+loop-j-preserved c =
+    let l = c.loop-j in rw c.from.ensures (fills_put (rw (from_next _ 255 l.j (omega arith)) at l.invariant) (omega arith))
+
 pub returns : goal.returns
-unfolding first_roster first_marks
+unfolding first_roster
 returns c =
-    let n = c.args.n in
-    rw (made_by_index _ (λ f. f.0.now ≡ n) (λ j. ltb j n) (λ f q i y held called. (search rules, search rules)) _ _ 255 false refl c.from_fn.ensures.items) refl
+    let l = c.loop-j in
+    rw (fills_all (rw (from_end _ 255 l.j (omega arith)) at l.invariant) (omega arith)) refl

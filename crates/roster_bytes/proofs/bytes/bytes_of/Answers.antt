@@ -1,12 +1,13 @@
--- `bytes_of` meets its contract.
-use Rattle.std.proofs.Common.{rules}
+-- `bytes_of` meets its contract: the byte of one mark more.
 use Rattle.std.specs.Prelude.{◌≡◌, Bool, true, false}
-use mathlib.Core.Path.{refl, ap, ◌∙◌}
-use mathlib.Core.List.{[], ◌∷◌, ◌++◌}
+use Rattle.std.proofs.Common.{arith}
+use mathlib.Core.Path.{refl, ◌∙◌}
 use mir.Val.{bool_byte}
 use Rattle.lists.specs.Choice.{pick}
-use Rattle.lists.proofs.Made.{made_by_element}
+use Rattle.lists.proofs.Rows.{from_next, from_end}
+use Rattle.lists.proofs.Fill.{fills_start, fills_put, fills_done}
 use Rattle.roster_bytes.specs.Bytes.{mark_bytes, roster_bytes}
+use Rattle.roster_bytes.proofs.Reading.{length_marks}
 use Rattle.roster_bytes.proofs.bytes.bytes_of.Goals as goal
 
 -- the byte of a mark
@@ -14,9 +15,17 @@ mark_byte : (here : Bool) → bool_byte here ≡ pick here 1 0
 mark_byte true = refl
 mark_byte false = refl
 
+pub loop-j-init : goal.loop-j-init
+unfolding mark_bytes
+loop-j-init c = fills_start _ _
+
+pub loop-j-preserved : goal.loop-j-preserved
+loop-j-preserved c =
+    let l = c.loop-j in
+    rw (c.from.ensures, mark_byte) (fills_put (rw (from_next _ 255 l.j (omega arith)) at l.invariant) (omega arith))
+
 pub returns : goal.returns
-unfolding roster_bytes mark_bytes
+unfolding roster_bytes
 returns c =
-    let roster = c.args.roster.now in
-    let marks = made_by_element _ (λ x. pick x 1 0) (λ f q x y called. let z : y ≡ bool_byte x = search rules in z ∙ mark_byte x) _ _ _ 255 false 0 c.map.ensures.items in
-    ap (λ l. l ++ (roster.job ∷ [])) (c.copy_from_slice.ensures.after ∙ marks)
+    let l = c.loop-j in
+    fills_done (rw (from_end _ 255 l.j (omega arith)) at l.invariant) ∙ rw (length_marks c.args.roster.now.marks) refl
