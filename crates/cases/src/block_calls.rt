@@ -3,6 +3,8 @@ use crate::block_words::block;
 use test_calls::written;
 use test_words::{Fault, Words};
 
+// Inlined, its quarter of a mebibyte would lie on the stack of every call.
+#[inline(never)]
 pub fn encode(rt: &impl Print, words: &mut Words) -> Result<(), Fault> {
     let (record, lanes) = block(words)?;
     let message = words.bytes("message")?;

@@ -18,6 +18,9 @@ mod listed;
 mod repairs;
 mod shares;
 
+// The most bytes of calls that are read.
+const MOST: usize = 262_144;
+
 fn answer_call(rt: &impl Print, line: &[u8], roster: &mut Roster) -> io::Result<()> {
     match call(rt, line, roster) {
         Ok(()) => Ok(()),
@@ -42,14 +45,9 @@ fn answers(rt: &impl Print, input: &[u8]) -> io::Result<()> {
     Ok(())
 }
 
-// Room for all calls.
-fn room() -> [u8; 262_144] {
-    [0; 262_144]
-}
-
 // All calls are read before the first answer is written.
 fn main(rt: HostRuntime) -> io::Result<()> {
-    let mut input = room();
+    let mut input = [0; MOST];
     let size = input::read_full(&rt, &mut input)?;
     answers(&rt, &input[..size])
 }
