@@ -6,4 +6,4 @@ use Rattle.carry.proofs.change.replace.Goals as goal
 
 pub returns : goal.returns
 unfolding part_replaced
-returns c = rw (add-sub_cancel_left, c.copy_from_slice.ensures.after) refl
+returns c = rw (add-sub_cancel_left, c.copy.ensures) refl
