@@ -1,14 +1,13 @@
-// Traces of bytes onto the subfields of 2^b elements. Bytes are u32 here, as the products of `FieldKind` take and give them: of u8 each would
+// Traces of bytes onto the subfields of 2^b elements. Bytes are u32 here, as the products of `Gf256` take and give them: of u8 each would
 // be cast twice.
 ghost use Rattle.std.specs.Prelude.{◌≡◌, ◌<◌};
 ghost use Rattle.traces.specs.Traces.{squarings, trace_of, element};
 ghost use Rattle.repair_tables.specs.Inner.Bits.{bit_count};
 
 use crate::bits::Bits;
-use field::{FieldKind, Gf256, Tables};
+use field::{Gf256, Tables};
 
 // a^(2^count).
-#[tactic(auto, unfolding(field::specs::Fields::size_of))]
 fn squarings(tables: &Tables, count: u32, a: u32) -> u32
     requires { a < 256 }
     ensures { result ≡ squarings count a }
@@ -16,7 +15,7 @@ fn squarings(tables: &Tables, count: u32, a: u32) -> u32
     let field = Gf256::new();
     let mut x = a;
     for _ in 0..count {
-        x = field.mul(tables, x, x);
+        x = field.mul_with(tables, x, x);
     }
     x
 }

@@ -6,7 +6,7 @@ use Rattle.repair_tables.proofs.subfields.squarings.Goals as goal
 pub loop-preserved : goal.loop-preserved
 loop-preserved c =
     let l = c.loop in
-    (rw c.mul-x.ensures (mul_byte _ _ l.invariant.0), rw c.mul-x.ensures (sym (squarings_next _ _ _ c.loop-test.true) ∙ l.invariant.1))
+    (rw c.mul_with-x.ensures (mul_byte _ _ l.invariant.0), rw c.mul_with-x.ensures (sym (squarings_next _ _ _ c.loop-test.true) ∙ l.invariant.1))
 
 pub returns : goal.returns
 returns c = sym (squarings_end _ _ _ c.loop-test.false) ∙ c.loop.invariant.1
