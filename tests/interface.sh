@@ -30,7 +30,7 @@ find_builds() {
     done
 }
 
-# the libraries have the calls of the header for their names, and nothing else
+# the libraries have the calls of the header for their names, and nothing else, and want memcpy and memset alone from outside
 names() {
     local file
     grep -o '^uint[0-9]*_t balanced_[a-z_]*' include/balanced.h | sed 's/.* //' | sort >target/examples/names
@@ -38,6 +38,11 @@ names() {
         nm -D --defined-only "$file" | sed 's/.* //' | sort | diff target/examples/names -
     done
     nm -g --defined-only "$static" | sed -n 's/.* T //p' | sort | diff target/examples/names -
+    printf 'memcpy\nmemset\n' >target/examples/wanted
+    nm -u "$static" | sed -n 's/^ *[A-Za-z] //p' | sort -u | diff target/examples/wanted -
+    for file in "$lib/libbalanced.so.1" "$lib"/glibc-hwcaps/*/libbalanced.so.1; do
+        nm -D --undefined-only "$file" | sed 's/^ *[A-Za-z] //; s/@.*//' | sort | diff target/examples/wanted -
+    done
 }
 
 # the header alone, as C and as C++

@@ -58,7 +58,7 @@ fn scatter_short(n: usize, count: usize, tile: &[u8], block: &mut [u8], out: &mu
     ensures { out.new ≡ rows_from (λ t. lane_of row_after_row n 64 t tile.now) 0 count }
 {
     turning::turn_all(16, count, 64, tile, n, block);
-    out.copy_from_slice(&block[..count * n]);
+    kernel::copy(&block[..count * n], out);
 }
 
 // Fewer lanes than a square has, through blocks.

@@ -15,6 +15,6 @@ returns c =
     let size = a.count * a.n in
     let block = c.turn_all.new.out in
     let inside : size ≤ length block = omega (arith, few (goal.at.returns c).Start, c.turn_all.ensures.long, c.requires.4) in
-    c.copy_from_slice.ensures.after
+    c.copy.ensures
     ∙ turned_out a.n a.count a.tile.now (take size block) (length-take-le size block inside)
     (λ t i lane row. get_or-take size block (t * a.n + i) 0 (omega (arith, row_inside a.count t a.n lane)) ∙ c.turn_all.ensures.holds t i lane (omega (arith, c.requires.0)) row)
