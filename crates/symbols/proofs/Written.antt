@@ -1,7 +1,7 @@
 -- A symbol written as bytes, by the width.
 use mathlib.Core.Path.{◌≡◌, ap}
 use mathlib.Core.List.{List, [], ◌∷◌, ◌++◌}
-use Prim.Native.Nat.{ℕ, ◌+◌, ◌/◌, ◌%◌, ◌<◌, ◌≤◌}
+use Prim.Native.Nat.{ℕ, ◌+◌, ◌<◌, ◌≤◌}
 use native.Mathlib.Omega.{arith}
 use lib.ListN.{length, get_or, set, drop, drop_of_length-le}
 use Rattle.lists.proofs.Front.{drop_next}
@@ -12,13 +12,6 @@ unfolding symbol_bytes
 one_written w x [] one long = absurd (omega arith)
 one_written w x (a ∷ []) one long = rw one
 one_written w x (a ∷ b ∷ out) one long = absurd (omega arith)
-
-pub two_written : (w x : ℕ) (out : List ℕ) → w ≡ 2 → length out ≡ w → set (set out 0 (x / 256)) 1 (x % 256) ≡ symbol_bytes w x
-unfolding symbol_bytes
-two_written w x [] two long = absurd (omega arith)
-two_written w x (a ∷ []) two long = absurd (omega arith)
-two_written w x (a ∷ b ∷ []) two long = rw two
-two_written w x (a ∷ b ∷ d ∷ out) two long = absurd (omega arith)
 
 -- what is left to write at symbol i
 pub bytes_next : (w : ℕ) (xs : List ℕ) (i : ℕ) → i < length xs → bytes_of w (drop i xs) ≡ symbol_bytes w (get_or xs i 0) ++ bytes_of w (drop (i + 1) xs)
