@@ -3,11 +3,12 @@ import os
 import resource
 import signal
 import subprocess
+import sys
 import time
 import unittest
 from unittest import mock
 
-from support import PROGRAM, StoreCase, command, in_child
+from support import TOP, StoreCase, command, in_child
 
 from imagestore import files, pipeline, share
 
@@ -129,6 +130,31 @@ class Children(StoreCase):
         self.assertEqual((in_child(action), self.left_over()), (3, []))
         self.all_right(None)
 
+    def test_an_interrupt_when_a_child_is_born(self):
+        """One that comes to a child changes nothing; one that came before ends the command, whatever comes to its children."""
+        fork, pipe, path = os.fork, pipeline.Pipe, self.file(self.data)
+
+        def before():
+            if self.forks == 0:
+                signal.raise_signal(signal.SIGINT)
+            return pipe()
+
+        def after():
+            child = fork()
+            if child == 0:
+                signal.raise_signal(signal.SIGINT)
+            return child
+
+        with mock.patch.object(os, "fork", after):
+            self.by_four("put", "image", path)
+            self.all_right(self.data)
+            self.right("rm", "image")
+            self.forks = 0
+            with mock.patch.object(pipeline, "Pipe", before):
+                self.assertIn("interrupted", self.refused(1, "--threads", 4, "put", "image", path))
+        self.assertEqual((self.forks, self.left_over()), (4, []))
+        self.all_right(None)
+
     def test_an_error_that_nobody_expects(self):
         """It reaches the parent as it is, and no child is left."""
         with mock.patch.object(share, "checksums", side_effect=ZeroDivisionError("here")), self.assertRaisesRegex(ZeroDivisionError, "here"):
@@ -139,8 +165,23 @@ class Children(StoreCase):
         self.assertEqual(self.left_over(), [])
 
 
+# the command in a process of its own, whose children wait before they encode until a pipe is closed
+HELD = """
+import os, sys
+from imagestore import cli, coding
+real, held = coding.shares_of, int(sys.argv.pop(1))
+
+def shares_of(*what):
+    os.read(held, 1)
+    return real(*what)
+
+coding.shares_of = shares_of
+sys.exit(cli.main())
+"""
+
+
 class Ends(StoreCase):
-    """The program itself, on an image that takes a while."""
+    """The command in the middle of its work, and something from outside."""
 
     def setUp(self):
         super().setUp()
@@ -148,29 +189,39 @@ class Ends(StoreCase):
         self.path = self.file(os.urandom(20_000_000), "large")
 
     def begun(self):
-        """The program in the middle of a put, and its children."""
-        program = subprocess.Popen([PROGRAM, "--store", self.store, "--threads", "4", "put", "image", self.path], stdout=subprocess.DEVNULL,
-                                   stderr=subprocess.PIPE, start_new_session=True)
-        while program.poll() is None:
+        """A put whose four children are forked, the children, and what to call so that they go on."""
+        held, go = os.pipe()
+        program = subprocess.Popen(
+            [sys.executable, "-B", "-c", HELD, str(held), "--store", self.store, "--threads", "4", "put", "image", self.path],
+            stdout=subprocess.DEVNULL, stderr=subprocess.PIPE, start_new_session=True, pass_fds=(held,),
+            env={**os.environ, "PYTHONPATH": str(TOP / "bindings" / "python")})
+        os.close(held)
+        end = os.fdopen(go, "wb")
+        for undo in (program.stderr.close, program.wait, end.close, program.kill):  # the last one first
+            self.addCleanup(undo)
+        deadline, children = time.monotonic() + 60, []
+        while len(children) < 4:
+            self.assertIsNone(program.poll(), "the put ended before it had four children")
+            self.assertLess(time.monotonic(), deadline, "the put does not fork four children")
+            time.sleep(0.001)
             with open(f"/proc/{program.pid}/task/{program.pid}/children", encoding="ascii") as file:
                 children = list(map(int, file.read().split()))
-            if len(children) == 4:
-                return program, children
-            time.sleep(0.001)
-        self.fail("the put ended before it had four children")
+        return program, children, end.close
 
     def test_a_child_that_is_killed(self):
-        program, children = self.begun()
+        program, children, go = self.begun()
         os.kill(children[2], signal.SIGKILL)
+        go()
         _, err = program.communicate()
         self.assertEqual((program.returncode, err), (1, b"imagestore: a process that worked on the image was ended\n"))
         self.all_right(None)
 
     def test_a_parent_that_is_killed(self):
         """Its children end too, and with them the locks; the next command has nothing to wait for, or not long."""
-        program, children = self.begun()
+        program, children, go = self.begun()
         program.kill()
-        program.communicate()
+        program.wait()
+        go()
         self.assertEqual(command("--store", self.store, "--wait", "20", "check")[0], 0)
         self.all_right(None)
         for _ in range(200):
@@ -182,8 +233,9 @@ class Ends(StoreCase):
     def test_interrupts(self):
         """Ctrl-C reaches the whole group: the children go on with what they have, and the parent undoes it."""
         for number in (signal.SIGINT, signal.SIGTERM):
-            program, children = self.begun()
+            program, children, go = self.begun()
             os.killpg(program.pid, number)
+            go()
             _, err = program.communicate()
             self.assertEqual(program.returncode, 1, err)
             self.assertIn(b"interrupted", err)

@@ -33,6 +33,21 @@ def noted():
             signal.signal(number, handler)
 
 
+@contextmanager
+def masked():
+    """Within, no interrupt reaches this thread, nor a child that is forked and ends here."""
+    kept = signal.pthread_sigmask(signal.SIG_BLOCK, SIGNALS)
+    try:
+        yield
+    finally:
+        signal.pthread_sigmask(signal.SIG_SETMASK, kept)
+
+
+def forget():
+    """In a child: what was noted is for its parent to act on."""
+    Seen.count = 0
+
+
 def point():
     """Ends the command here if it was interrupted: once, so that what is done then to undo it is not ended too."""
     if Seen.count and not Seen.ended and threading.current_thread() is threading.main_thread():

@@ -6,7 +6,6 @@ its parent has them, and so the nodes' locks, which end with the last of the fam
 only one can use, threads do it. One batch, or one at a time, needs neither.
 """
 import os
-import signal
 from collections import deque
 from concurrent.futures import ThreadPoolExecutor
 from contextlib import closing
@@ -97,16 +96,16 @@ class Child:
 
     def __init__(self, function, family, elder):
         self.pipe, far = Pipe()
-        self.number = os.fork()
-        if self.number == 0:
-            try:
-                for number in interrupts.SIGNALS:
-                    signal.signal(number, signal.SIG_IGN)  # the parent decides
-                for child in (*elder, self):
-                    child.pipe.close()
-                self.work(far, function, family)
-            finally:
-                os._exit(0)
+        with interrupts.masked():  # the parent acts on interrupts, and the child gets none
+            self.number = os.fork()
+            if self.number == 0:
+                try:
+                    interrupts.forget()
+                    for child in (*elder, self):
+                        child.pipe.close()
+                    self.work(far, function, family)
+                finally:
+                    os._exit(0)
         far.close()
 
     @staticmethod
