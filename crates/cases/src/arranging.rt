@@ -2,13 +2,13 @@
 use crate::block_words::block;
 use balanced::Refusal;
 use test_calls::written;
-use test_words::{Fault, Words};
+use test_words::{BareFault, BareWords};
 
 pub fn arrange<F: FnOnce(&[u8], u32, &[u8], &mut [u8]) -> Result<(), Refusal>>(
     rt: &impl Print,
-    words: &mut Words,
+    words: &mut BareWords,
     call: F,
-) -> Result<(), Fault>
+) -> Result<(), BareFault>
     requires { F.IsAlwaysCallable call }
 {
     let (record, lanes) = block(words)?;

@@ -1,11 +1,11 @@
 // Calls that write shares, a message or differences of a block.
 use crate::block_words::block;
 use test_calls::written;
-use test_words::{Fault, Words};
+use test_words::{BareFault, BareWords};
 
 // Inlined, its quarter of a mebibyte would lie on the stack of every call.
 #[inline(never)]
-pub fn encode(rt: &impl Print, words: &mut Words) -> Result<(), Fault> {
+pub fn encode(rt: &impl Print, words: &mut BareWords) -> Result<(), BareFault> {
     let (record, lanes) = block(words)?;
     let message = words.bytes("message")?;
     written(rt, words, |out| {
@@ -13,7 +13,7 @@ pub fn encode(rt: &impl Print, words: &mut Words) -> Result<(), Fault> {
     })
 }
 
-pub fn recover(rt: &impl Print, words: &mut Words) -> Result<(), Fault> {
+pub fn recover(rt: &impl Print, words: &mut BareWords) -> Result<(), BareFault> {
     let (record, lanes) = block(words)?;
     let nodes = words.bytes("nodes")?;
     let shares = words.bytes("shares")?;
@@ -22,7 +22,7 @@ pub fn recover(rt: &impl Print, words: &mut Words) -> Result<(), Fault> {
     })
 }
 
-pub fn rebuild(rt: &impl Print, words: &mut Words) -> Result<(), Fault> {
+pub fn rebuild(rt: &impl Print, words: &mut BareWords) -> Result<(), BareFault> {
     let (record, lanes) = block(words)?;
     let nodes = words.bytes("nodes")?;
     let shares = words.bytes("shares")?;
@@ -32,7 +32,7 @@ pub fn rebuild(rt: &impl Print, words: &mut Words) -> Result<(), Fault> {
     })
 }
 
-pub fn differences(rt: &impl Print, words: &mut Words) -> Result<(), Fault> {
+pub fn differences(rt: &impl Print, words: &mut BareWords) -> Result<(), BareFault> {
     let (record, lanes) = block(words)?;
     let symbol = words.number("symbol")?;
     let before = words.bytes("before")?;

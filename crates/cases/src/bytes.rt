@@ -1,19 +1,19 @@
 // Calls that carry bytes in symbols, and the one that gives a record for n nodes of which k are needed.
 use crate::shares::lend;
 use balanced::Refusal;
-use test_calls::{Refused, answered, done, last_buffer, turned_away, written};
+use test_calls::{Refused, answered, bare_last_buffer, done, turned_away, written};
 use test_tools::{List, MARK, untouched};
-use test_words::{Fault, Words};
+use test_words::{BareFault, BareWords};
 
 // How many bytes of symbols carry so many, or what turned the call away.
-fn length(rt: &impl Print, answer: Result<usize, Refusal>) -> Result<(), Fault> {
+fn length(rt: &impl Print, answer: Result<usize, Refusal>) -> Result<(), BareFault> {
     match answer {
         Ok(length) => answered(rt, format_args!("length {length}")),
         Err(refusal) => answered(rt, Refused(refusal)),
     }
 }
 
-pub fn carried_len(rt: &impl Print, words: &mut Words) -> Result<(), Fault> {
+pub fn carried_len(rt: &impl Print, words: &mut BareWords) -> Result<(), BareFault> {
     let record = words.record()?;
     let count = words.number("count")?;
     words.end()?;
@@ -24,10 +24,10 @@ pub fn carried_len(rt: &impl Print, words: &mut Words) -> Result<(), Fault> {
 // Bytes written as symbols, or bytes that symbols carry: the list that is read has this word.
 pub fn carry<F: FnOnce(&[u8], &[u8], &mut [u8]) -> Result<(), Refusal>>(
     rt: &impl Print,
-    words: &mut Words,
+    words: &mut BareWords,
     word: &'static str,
     call: F,
-) -> Result<(), Fault>
+) -> Result<(), BareFault>
     requires { F.IsAlwaysCallable call }
 {
     let record = words.record()?;
@@ -36,7 +36,7 @@ pub fn carry<F: FnOnce(&[u8], &[u8], &mut [u8]) -> Result<(), Refusal>>(
 }
 
 // Bytes changed where symbols carry them.
-pub fn carry_change(rt: &impl Print, words: &mut Words) -> Result<(), Fault> {
+pub fn carry_change(rt: &impl Print, words: &mut BareWords) -> Result<(), BareFault> {
     let record = words.record()?;
     let count = words.number("count")?;
     let at = words.number("at")?;
@@ -50,7 +50,7 @@ pub fn carry_change(rt: &impl Print, words: &mut Words) -> Result<(), Fault> {
 }
 
 // How many bytes the record has, and the room with it in front; or what turned the call away and whether every byte is as it was.
-fn chosen(rt: &impl Print, answer: Result<u8, Refusal>, out: &[u8]) -> Result<(), Fault> {
+fn chosen(rt: &impl Print, answer: Result<u8, Refusal>, out: &[u8]) -> Result<(), BareFault> {
     match answer {
         Ok(length) => answered(rt, format_args!("length {length} record{}", List(out))),
         Err(refusal) => turned_away(rt, refusal, untouched(MARK, out)),
@@ -58,10 +58,10 @@ fn chosen(rt: &impl Print, answer: Result<u8, Refusal>, out: &[u8]) -> Result<()
 }
 
 // The line has no record.
-pub fn choose(rt: &impl Print, words: &mut Words) -> Result<(), Fault> {
+pub fn choose(rt: &impl Print, words: &mut BareWords) -> Result<(), BareFault> {
     let n = words.number("n")?;
     let k = words.number("k")?;
-    let mut out = last_buffer(words, MARK)?;
+    let mut out = bare_last_buffer(words, MARK)?;
     let answer = balanced::choose_record(n, k, &mut out);
     chosen(rt, answer, &out)
 }

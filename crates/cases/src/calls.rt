@@ -3,12 +3,12 @@ use crate::arranging::arrange;
 use crate::{block_calls, bytes, listed, repairs, shares};
 use balanced::Roster;
 use test_calls::{counts, lanes, plans, rosters};
-use test_words::{Fault, Words};
+use test_words::{BareFault, BareWords};
 
 // Makes the call of a line, all of whose words are read, and prints its answer in words. A name is text from outside: one match leads from it
 // to the call. A table of functions would be searched by hand, and the roster goes to some calls only.
-pub fn call(rt: &impl Print, line: &[u8], roster: &mut Roster) -> Result<(), Fault> {
-    let mut words = Words::new(line);
+pub fn call(rt: &impl Print, line: &[u8], roster: &mut Roster) -> Result<(), BareFault> {
+    let mut words = BareWords::new(line);
     let name = words.name();
     let words = &mut words;
     match name {
@@ -43,6 +43,6 @@ pub fn call(rt: &impl Print, line: &[u8], roster: &mut Roster) -> Result<(), Fau
         "carry_out" => bytes::carry(rt, words, "symbols", balanced::carry_out),
         "carry_change" => bytes::carry_change(rt, words),
         "choose" => bytes::choose(rt, words),
-        _ => Err(Fault::UnknownCall),
+        _ => Err(BareFault::UnknownCall),
     }
 }

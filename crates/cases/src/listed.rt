@@ -1,9 +1,9 @@
 // The call on listed shares of which some are wrong.
 use crate::block_words::block;
 use balanced::Refusal;
-use test_calls::{answered, buffer, last_buffer, turned_away};
+use test_calls::{answered, bare_buffer, bare_last_buffer, turned_away};
 use test_tools::{List, MARK, untouched};
-use test_words::{Fault, Words};
+use test_words::{BareFault, BareWords};
 
 // What every place of the list of counts holds before the call.
 const NO_COUNT: u32 = 43690;
@@ -14,7 +14,7 @@ fn settled(
     answer: Result<u32, Refusal>,
     message: &[u8],
     wrong: &[u32],
-) -> Result<(), Fault> {
+) -> Result<(), BareFault> {
     match answer {
         Ok(count) => answered(
             rt,
@@ -32,12 +32,12 @@ fn settled(
 }
 
 // The lists are lent with room for so many bytes of the message, and for so many counts.
-pub fn correct(rt: &impl Print, words: &mut Words) -> Result<(), Fault> {
+pub fn correct(rt: &impl Print, words: &mut BareWords) -> Result<(), BareFault> {
     let (record, lanes) = block(words)?;
     let nodes = words.bytes("nodes")?;
     let shares = words.bytes("shares")?;
-    let mut message = buffer(words, MARK)?;
-    let mut wrong = last_buffer(words, NO_COUNT)?;
+    let mut message = bare_buffer(words, MARK)?;
+    let mut wrong = bare_last_buffer(words, NO_COUNT)?;
     let answer = balanced::correct_listed(
         &record,
         lanes,

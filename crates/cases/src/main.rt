@@ -6,7 +6,7 @@ use balanced::Roster;
 use calls::call;
 use std::io;
 use test_calls::rosters::nobody;
-use test_tools::not_read;
+use test_tools::bare_not_read;
 use test_words::is_comment;
 
 mod arranging;
@@ -24,7 +24,7 @@ const MOST: usize = 262_144;
 fn answer_call(rt: &impl Print, line: &[u8], roster: &mut Roster) -> io::Result<()> {
     match call(rt, line, roster) {
         Ok(()) => Ok(()),
-        Err(fault) => not_read(rt, "call", fault),
+        Err(fault) => bare_not_read(rt, "call", fault),
     }
 }
 

@@ -2,10 +2,10 @@
 use crate::block_words::block;
 use balanced::{Refusal, RepairPlan};
 use test_calls::{Refused, answered, written};
-use test_words::{Fault, Words};
+use test_words::{BareFault, BareWords};
 
 // What a node sends.
-pub fn bits(rt: &impl Print, words: &mut Words) -> Result<(), Fault> {
+pub fn bits(rt: &impl Print, words: &mut BareWords) -> Result<(), BareFault> {
     let (record, lanes) = block(words)?;
     let node = words.number("node")?;
     let target = words.number("target")?;
@@ -17,7 +17,7 @@ pub fn bits(rt: &impl Print, words: &mut Words) -> Result<(), Fault> {
 }
 
 // The target's share.
-pub fn share(rt: &impl Print, words: &mut Words) -> Result<(), Fault> {
+pub fn share(rt: &impl Print, words: &mut BareWords) -> Result<(), BareFault> {
     let (record, lanes) = block(words)?;
     let target = words.number("target")?;
     let missing = words.bytes("missing")?;
@@ -28,14 +28,14 @@ pub fn share(rt: &impl Print, words: &mut Words) -> Result<(), Fault> {
 }
 
 // How many bits each node sends and how many further nodes may be missing, or what turned the call away.
-fn planned(rt: &impl Print, answer: Result<RepairPlan, Refusal>) -> Result<(), Fault> {
+fn planned(rt: &impl Print, answer: Result<RepairPlan, Refusal>) -> Result<(), BareFault> {
     match answer {
         Ok(RepairPlan { bits, spare }) => answered(rt, format_args!("bits {bits} spare {spare}")),
         Err(refusal) => answered(rt, Refused(refusal)),
     }
 }
 
-pub fn plan(rt: &impl Print, words: &mut Words) -> Result<(), Fault> {
+pub fn plan(rt: &impl Print, words: &mut BareWords) -> Result<(), BareFault> {
     let record = words.record()?;
     let count = words.number("count")?;
     words.end()?;

@@ -4,10 +4,10 @@ use arrayvec::ArrayVec;
 use balanced::Refusal;
 use test_calls::{Refused, answered, done, turned_away};
 use test_tools::List;
-use test_words::{Fault, Words};
+use test_words::{BareFault, BareWords};
 
 // The shares of the last word.
-fn last_shares(words: &mut Words) -> Result<ArrayVec<u8, 64>, Fault> {
+fn last_shares(words: &mut BareWords) -> Result<ArrayVec<u8, 64>, BareFault> {
     let shares = words.bytes("shares")?;
     words.end()?;
     Ok(shares)
@@ -31,9 +31,9 @@ pub fn lend<T: Copy, F: FnOnce(&mut [u8]) -> Result<T, Refusal>>(
 // How many nodes or symbols a call altered and the shares afterwards, or what turned it away and whether the shares are as they were.
 fn altered<F: FnOnce(&mut [u8]) -> Result<u32, Refusal>>(
     rt: &impl Print,
-    words: &mut Words,
+    words: &mut BareWords,
     call: F,
-) -> Result<(), Fault>
+) -> Result<(), BareFault>
     requires { F.IsAlwaysCallable call }
 {
     let (answer, after, kept) = lend(last_shares(words)?, call);
@@ -43,7 +43,7 @@ fn altered<F: FnOnce(&mut [u8]) -> Result<u32, Refusal>>(
     }
 }
 
-pub fn update(rt: &impl Print, words: &mut Words) -> Result<(), Fault> {
+pub fn update(rt: &impl Print, words: &mut BareWords) -> Result<(), BareFault> {
     let (record, lanes) = block(words)?;
     let symbol = words.number("symbol")?;
     let lane = words.number("lane")?;
@@ -54,7 +54,7 @@ pub fn update(rt: &impl Print, words: &mut Words) -> Result<(), Fault> {
     })
 }
 
-pub fn update_lanes(rt: &impl Print, words: &mut Words) -> Result<(), Fault> {
+pub fn update_lanes(rt: &impl Print, words: &mut BareWords) -> Result<(), BareFault> {
     let (record, lanes) = block(words)?;
     let symbol = words.number("symbol")?;
     let first = words.number("lane")?;
@@ -65,7 +65,7 @@ pub fn update_lanes(rt: &impl Print, words: &mut Words) -> Result<(), Fault> {
     })
 }
 
-pub fn correct(rt: &impl Print, words: &mut Words) -> Result<(), Fault> {
+pub fn correct(rt: &impl Print, words: &mut BareWords) -> Result<(), BareFault> {
     let (record, lanes) = block(words)?;
     altered(rt, words, |shares| {
         balanced::correct_block(&record, lanes, shares)
@@ -73,7 +73,7 @@ pub fn correct(rt: &impl Print, words: &mut Words) -> Result<(), Fault> {
 }
 
 // Yes, the smallest lane that is no word, or what turned the call away.
-fn membership(rt: &impl Print, answer: Result<Option<u32>, Refusal>) -> Result<(), Fault> {
+fn membership(rt: &impl Print, answer: Result<Option<u32>, Refusal>) -> Result<(), BareFault> {
     match answer {
         Ok(None) => answered(rt, "yes"),
         Ok(Some(lane)) => answered(rt, format_args!("no, lane {lane}")),
@@ -81,7 +81,7 @@ fn membership(rt: &impl Print, answer: Result<Option<u32>, Refusal>) -> Result<(
     }
 }
 
-pub fn belongs(rt: &impl Print, words: &mut Words) -> Result<(), Fault> {
+pub fn belongs(rt: &impl Print, words: &mut BareWords) -> Result<(), BareFault> {
     let (record, lanes) = block(words)?;
     let shares = last_shares(words)?;
     let answer = balanced::block_belongs(&record, lanes, &shares);
@@ -89,7 +89,7 @@ pub fn belongs(rt: &impl Print, words: &mut Words) -> Result<(), Fault> {
 }
 
 // A node's difference added to its share.
-pub fn add_share(rt: &impl Print, words: &mut Words) -> Result<(), Fault> {
+pub fn add_share(rt: &impl Print, words: &mut BareWords) -> Result<(), BareFault> {
     let (record, lanes) = block(words)?;
     let difference = words.bytes("symbols")?;
     let (answer, after, kept) = lend(last_shares(words)?, |share| {

@@ -7,14 +7,14 @@ use compare_text::comparison;
 use input::print_text;
 use sheet_text::sheet;
 use std::io;
-use test_tools::not_read;
-use test_words::{Fault, Words, is_comment};
+use test_tools::bare_not_read;
+use test_words::{BareFault, BareWords, is_comment};
 
 // The record of a line.
-fn read(line: &[u8]) -> Result<ArrayVec<u8, 64>, Fault> {
-    let mut words = Words::new(line);
+fn read(line: &[u8]) -> Result<ArrayVec<u8, 64>, BareFault> {
+    let mut words = BareWords::new(line);
     if words.name() != "record" {
-        return Err(Fault::UnknownCall);
+        return Err(BareFault::UnknownCall);
     }
     let record = words.record()?;
     words.end()?;
@@ -30,7 +30,7 @@ fn answer_record(rt: &impl Print, line: &[u8]) -> io::Result<()> {
             print_text(rt, &record, &mut compare_text::page(), comparison)
         }
         Err(fault) => {
-            not_read(rt, "record", fault)?;
+            bare_not_read(rt, "record", fault)?;
             rt.write_all(b"\n")
         }
     }

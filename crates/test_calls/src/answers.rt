@@ -3,7 +3,7 @@ use generator::Refusal;
 use std::fmt;
 use std::fmt::Display;
 use test_tools::{List, change};
-use test_words::Fault;
+use test_words::BareFault;
 
 // A refusal, said by its number. `Refusal` itself has no `Display`: the library has no texts, and each program says a refusal in its own.
 #[derive(Clone, Copy)]
@@ -17,14 +17,14 @@ impl Display for Refused {
 }
 
 // Prints what a call answered.
-pub fn answered<D: Display + Drop>(rt: &impl Print, answer: D) -> Result<(), Fault> {
+pub fn answered<D: Display + Drop>(rt: &impl Print, answer: D) -> Result<(), BareFault> {
     print!(rt; ": {answer}")?;
     Ok(())
 }
 
 // What turned the call away, and whether everything that was lent is as it was. Where nothing is lent the last arm of a match says the number:
 // `told(rt, answer, |found| match found { .. })` would take that arm away, and bring a closure, its bound and its clause.
-pub fn turned_away(rt: &impl Print, refusal: Refusal, kept: bool) -> Result<(), Fault> {
+pub fn turned_away(rt: &impl Print, refusal: Refusal, kept: bool) -> Result<(), BareFault> {
     answered(rt, format_args!("{}, {}", Refused(refusal), change(kept)))
 }
 
@@ -34,7 +34,7 @@ pub fn done<T: Display>(
     answer: Result<(), Refusal>,
     after: &[T],
     kept: bool,
-) -> Result<(), Fault> {
+) -> Result<(), BareFault> {
     match answer {
         Ok(()) => answered(rt, format_args!("done{}", List(after))),
         Err(refusal) => turned_away(rt, refusal, kept),

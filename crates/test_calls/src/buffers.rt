@@ -1,40 +1,21 @@
-// Buffers that are lent to calls, with the room that a word says; every place holds the mark.
-use crate::done;
-use arrayvec::ArrayVec;
-use generator::Refusal;
-use test_tools::{MARK, untouched};
+// Buffers that are lent to calls, in the memory of the words, with the room that a word says; every place holds the mark.
+ghost use Rattle.std.specs.Prelude.{◌≤◌, IfOk, vec_len};
+
 use test_words::{Fault, Words};
 
 // The room is the next word's.
-pub fn buffer<T: Copy + Default>(words: &mut Words, mark: T) -> Result<ArrayVec<T, 64>, Fault> {
+pub fn buffer<T: Copy>(words: &mut Words, mark: T) -> Result<Vec<T>, Fault>
+    ensures { IfOk result (λ v. vec_len v ≤ 64) }
+{
     let room = words.room()?;
-    let mut buffer = ArrayVec::new();
-    for _ in 0..room {
-        buffer.push(mark);
-    }
-    Ok(buffer)
+    Ok(vec![in words.alloc(); mark; room]?)
 }
 
 // The room is the last word's.
-pub fn last_buffer<T: Copy + Default>(
-    words: &mut Words,
-    mark: T,
-) -> Result<ArrayVec<T, 64>, Fault> {
+pub fn last_buffer<T: Copy>(words: &mut Words, mark: T) -> Result<Vec<T>, Fault>
+    ensures { IfOk result (λ v. vec_len v ≤ 64) }
+{
     let buffer = buffer(words, mark)?;
     words.end()?;
     Ok(buffer)
-}
-
-// Lends the buffer of bytes of the last word to a call that writes it: what it holds afterwards, or what turned the call away.
-pub fn written<F: FnOnce(&mut [u8]) -> Result<(), Refusal>>(
-    rt: &impl Print,
-    words: &mut Words,
-    call: F,
-) -> Result<(), Fault>
-    requires { F.IsAlwaysCallable call }
-{
-    let mut out = last_buffer(words, MARK)?;
-    let answer = call(&mut out);
-    let kept = untouched(MARK, &out);
-    done(rt, answer, &out, kept)
 }

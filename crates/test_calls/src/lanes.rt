@@ -1,12 +1,12 @@
 // Calls on single lanes.
-use crate::{Refused, answered, buffer, last_buffer, turned_away};
+use crate::{Refused, answered, bare_buffer, bare_last_buffer, turned_away};
 use find_update::Finding;
 use generator::Refusal;
 use test_tools::{List, MARK, untouched};
-use test_words::{Fault, Words};
+use test_words::{BareFault, BareWords};
 
 // The symbol and the amount, that there is none, that the lanes are equal, or what turned the call away.
-fn finding(rt: &impl Print, answer: Result<Finding, Refusal>) -> Result<(), Fault> {
+fn finding(rt: &impl Print, answer: Result<Finding, Refusal>) -> Result<(), BareFault> {
     match answer {
         Ok(Finding::Unchanged) => answered(rt, "unchanged"),
         Ok(Finding::Added { symbol, amount }) => {
@@ -17,7 +17,7 @@ fn finding(rt: &impl Print, answer: Result<Finding, Refusal>) -> Result<(), Faul
     }
 }
 
-pub fn find(rt: &impl Print, words: &mut Words) -> Result<(), Fault> {
+pub fn find(rt: &impl Print, words: &mut BareWords) -> Result<(), BareFault> {
     let record = words.record()?;
     let before = words.bytes("before")?;
     let after = words.bytes("after")?;
@@ -32,7 +32,7 @@ fn mending(
     answer: Result<u32, Refusal>,
     nodes: &[u8],
     symbols: &[u8],
-) -> Result<(), Fault> {
+) -> Result<(), BareFault> {
     match answer {
         Ok(count) => answered(
             rt,
@@ -50,11 +50,11 @@ fn mending(
 }
 
 // The lists are lent with room for so many nodes, and for so many bytes of symbols.
-pub fn mends(rt: &impl Print, words: &mut Words) -> Result<(), Fault> {
+pub fn mends(rt: &impl Print, words: &mut BareWords) -> Result<(), BareFault> {
     let record = words.record()?;
     let lane = words.bytes("symbols")?;
-    let mut nodes = buffer(words, MARK)?;
-    let mut symbols = last_buffer(words, MARK)?;
+    let mut nodes = bare_buffer(words, MARK)?;
+    let mut symbols = bare_last_buffer(words, MARK)?;
     let answer = mends::single_mends(&record, &lane, &mut nodes, &mut symbols);
     mending(rt, answer, &nodes, &symbols)
 }

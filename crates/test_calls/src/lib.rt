@@ -3,11 +3,15 @@
 #![tactic(auto)]
 
 mod answers;
+mod bare_buffers;
 mod buffers;
 pub mod counts;
 pub mod lanes;
 pub mod plans;
 pub mod rosters;
+#[cfg(test)]
+mod tests;
 
 pub use answers::{Refused, answered, done, turned_away};
-pub use buffers::{buffer, last_buffer, written};
+pub use bare_buffers::{bare_buffer, bare_last_buffer, written};
+pub use buffers::{buffer, last_buffer};

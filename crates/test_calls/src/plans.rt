@@ -7,7 +7,7 @@ use generator::Refusal;
 use plan::Plan;
 use std::fmt;
 use test_tools::{Block, untouched};
-use test_words::{Fault, Words};
+use test_words::{BareFault, BareWords};
 
 // A list at the front of its places, and whether those after it hold 0.
 #[derive(Clone, Copy)]
@@ -53,7 +53,7 @@ fn bytes_of(symbols: &[u16], wide: bool) -> ArrayVec<u8, 510>
 }
 
 // The numbers, the shifts, the first nodes and the base word.
-fn accepted(rt: &impl Print, plan: &Plan, wide: bool) -> Result<(), Fault> {
+fn accepted(rt: &impl Print, plan: &Plan, wide: bool) -> Result<(), BareFault> {
     let Plan {
         n,
         k,
@@ -79,7 +79,7 @@ fn accepted(rt: &impl Print, plan: &Plan, wide: bool) -> Result<(), Fault> {
 }
 
 // The plan, or what turned the record away. Then there are no places: that all are 0 is what the reference writes of them.
-fn planned(rt: &impl Print, answer: Result<Plan, Refusal>, wide: bool) -> Result<(), Fault> {
+fn planned(rt: &impl Print, answer: Result<Plan, Refusal>, wide: bool) -> Result<(), BareFault> {
     match answer {
         Ok(plan) => accepted(rt, &plan, wide),
         Err(refusal) => answered(rt, format_args!("{}, all places 0", Refused(refusal))),
@@ -87,7 +87,7 @@ fn planned(rt: &impl Print, answer: Result<Plan, Refusal>, wide: bool) -> Result
 }
 
 // A symbol has two bytes in a record of kind 3, and else one.
-pub fn plan(rt: &impl Print, words: &mut Words) -> Result<(), Fault> {
+pub fn plan(rt: &impl Print, words: &mut BareWords) -> Result<(), BareFault> {
     let record = words.record()?;
     words.end()?;
     let wide = record.first() == Some(&3);

@@ -1,10 +1,10 @@
 // The calls of a roster, which is kept from line to line; after a start or an event the answer says which nodes are present.
-use crate::{Refused, answered, last_buffer, turned_away};
+use crate::{Refused, answered, bare_last_buffer, turned_away};
 use generator::Refusal;
 use roster::{Listing, Roster};
 use std::fmt;
 use test_tools::{List, MARK, change, untouched};
-use test_words::{Fault, Words};
+use test_words::{BareFault, BareWords};
 
 // A roster with no node, as there is before the first start and after one that was turned away.
 pub fn nobody() -> Roster {
@@ -31,7 +31,7 @@ impl fmt::Display for Present<'_> {
 }
 
 // The nodes that are present after a call, behind what turned it away, where something did.
-fn stepped(rt: &impl Print, roster: &Roster, refusal: Option<Refusal>) -> Result<(), Fault> {
+fn stepped(rt: &impl Print, roster: &Roster, refusal: Option<Refusal>) -> Result<(), BareFault> {
     let nodes = Present(&roster.marks);
     match refusal {
         None => answered(rt, nodes),
@@ -39,7 +39,7 @@ fn stepped(rt: &impl Print, roster: &Roster, refusal: Option<Refusal>) -> Result
     }
 }
 
-pub fn start(rt: &impl Print, words: &mut Words, roster: &mut Roster) -> Result<(), Fault> {
+pub fn start(rt: &impl Print, words: &mut BareWords, roster: &mut Roster) -> Result<(), BareFault> {
     let record = words.record()?;
     words.end()?;
     let started = Roster::start(&record);
@@ -50,10 +50,10 @@ pub fn start(rt: &impl Print, words: &mut Words, roster: &mut Roster) -> Result<
 // A node leaves or returns; where that is turned away the roster stays.
 pub fn event<F: FnOnce(Roster, &[u8], u32) -> Result<Roster, Refusal>>(
     rt: &impl Print,
-    words: &mut Words,
+    words: &mut BareWords,
     roster: &mut Roster,
     call: F,
-) -> Result<(), Fault>
+) -> Result<(), BareFault>
     requires { F.IsAlwaysCallable call }
 {
     let record = words.record()?;
@@ -65,7 +65,7 @@ pub fn event<F: FnOnce(Roster, &[u8], u32) -> Result<Roster, Refusal>>(
 }
 
 // The list that was written, or why it was not and whether every byte is as it was.
-fn listed(rt: &impl Print, answer: Result<Listing, Refusal>, out: &[u8]) -> Result<(), Fault> {
+fn listed(rt: &impl Print, answer: Result<Listing, Refusal>, out: &[u8]) -> Result<(), BareFault> {
     let kept = untouched(MARK, out);
     match answer {
         Ok(Listing::Written) => answered(rt, format_args!("done{}", List(out))),
@@ -74,17 +74,17 @@ fn listed(rt: &impl Print, answer: Result<Listing, Refusal>, out: &[u8]) -> Resu
     }
 }
 
-pub fn lowest(rt: &impl Print, words: &mut Words, roster: &Roster) -> Result<(), Fault> {
+pub fn lowest(rt: &impl Print, words: &mut BareWords, roster: &Roster) -> Result<(), BareFault> {
     let record = words.record()?;
-    let mut out = last_buffer(words, MARK)?;
+    let mut out = bare_last_buffer(words, MARK)?;
     let answer = roster.lowest(&record, &mut out);
     listed(rt, answer, &out)
 }
 
 // The job's list, then the number of the next job.
-pub fn job(rt: &impl Print, words: &mut Words, roster: &mut Roster) -> Result<(), Fault> {
+pub fn job(rt: &impl Print, words: &mut BareWords, roster: &mut Roster) -> Result<(), BareFault> {
     let record = words.record()?;
-    let mut out = last_buffer(words, MARK)?;
+    let mut out = bare_last_buffer(words, MARK)?;
     let answer = roster.next_job(&record, &mut out);
     listed(rt, answer, &out)?;
     print!(rt; ", next job {}", roster.job)?;

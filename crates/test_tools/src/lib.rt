@@ -4,7 +4,9 @@
 mod answers;
 mod data;
 mod print;
+#[cfg(test)]
+mod tests;
 
 pub use answers::{Block, List, change};
 pub use data::{MARK, sum, untouched};
-pub use print::not_read;
+pub use print::{bare_not_read, not_read};

@@ -1,10 +1,9 @@
-// What is wrong with a line that is no call.
-use arrayvec::ArrayString;
-use std::io;
+// What is wrong with a line that is no call, with words of any length.
+use crate::BareFault;
+use std::alloc::{AllocError, Global};
 use thiserror::Error;
 
-// The first fault from the left; or the answer could not be written. A word is a copy of its own here: with a lent one, `&'static str`, the
-// borrow checker does not cover the functions that answer with a fault.
+// The first fault from the left; or there is no memory to read the line.
 #[derive(Debug, Drop, Error)]
 pub enum Fault {
     #[error("unknown call")]
@@ -13,10 +12,10 @@ pub enum Fault {
     UnknownWord,
     // The word that stands nowhere.
     #[error("{0} is missing")]
-    MissingWord(ArrayString<16>),
+    MissingWord(String),
     // The word with no number after it.
     #[error("{0} has no number")]
-    MissingNumber(ArrayString<16>),
+    MissingNumber(String),
     #[error("too many numbers")]
     TooManyNumbers,
     #[error("number too large")]
@@ -24,5 +23,21 @@ pub enum Fault {
     #[error("too much room")]
     TooMuchRoom,
     #[error(transparent)]
-    Unwritten(#[from] io::Error),
+    NoMemory(#[from(alloc)] AllocError),
+}
+
+impl Fault {
+    // A fault of the words, where this word was asked for: it is said whole. Nothing is written, so it is never that.
+    pub(crate) fn of(alloc: Global, word: &str, fault: BareFault) -> Result<Fault, AllocError> {
+        Ok(match fault {
+            BareFault::UnknownCall => Fault::UnknownCall,
+            BareFault::UnknownWord => Fault::UnknownWord,
+            BareFault::MissingWord(_) => Fault::MissingWord(String::from_str(alloc, word)?),
+            BareFault::MissingNumber(_) => Fault::MissingNumber(String::from_str(alloc, word)?),
+            BareFault::TooManyNumbers => Fault::TooManyNumbers,
+            BareFault::LargeNumber => Fault::LargeNumber,
+            BareFault::TooMuchRoom => Fault::TooMuchRoom,
+            BareFault::Unwritten(_) => Fault::NoMemory(AllocError),
+        })
+    }
 }

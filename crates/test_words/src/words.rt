@@ -1,13 +1,8 @@
-// The words of a line, from left to right.
-ghost use Rattle.std.specs.Prelude.{◌≡◌, ◌≤◌, ◌↔◌, IsTrue, IfSome, IfOk, length, slice_get};
-ghost use Rattle.arrayvec.specs.ArrayVec.{array_vec_len};
+// The words of a line, from left to right, and the memory in which their lists lie.
+ghost use Rattle.std.specs.Prelude.{◌≡◌, ◌≤◌, ◌↔◌, IsTrue, IfSome, IfOk, slice_get, vec_len, MatchOption};
 
-use crate::Fault;
-use arrayvec::{ArrayString, ArrayVec};
-use std::str::{self, FromStr};
-
-// The most numbers of a list, and the most room for one that is written.
-const MOST: usize = 64;
+use crate::{BareWords, Fault};
+use std::alloc::Global;
 
 // Whether a line is empty or a comment: its first byte is no other than '#'.
 pub fn is_comment(line: &[u8]) -> bool
@@ -16,122 +11,58 @@ pub fn is_comment(line: &[u8]) -> bool
     line.first().is_none_or(|b| *b == b'#')
 }
 
-fn is_number(word: &str) -> bool {
-    !word.is_empty() && word.bytes().all(|b| b.is_ascii_digit())
-}
-
-// A copy of a word of a call, for which there is room: none has more than 16 bytes.
-fn copy(word: &str) -> ArrayString<16>
-    ensures { length word.now ≤ 16 → result.bytes ≡ word.now }
-{
-    ArrayString::from(word).unwrap_or(ArrayString::new())
-}
-
-// The words that are still to be read; none where the last one has been.
+// The words that are still to be read. What needs no memory takes `bare`.
 #[derive(Clone, Copy)]
 pub struct Words<'a> {
-    rest: Option<&'a [u8]>,
+    alloc: Global,
+    pub bare: BareWords<'a>,
 }
 
 impl<'a> Words<'a> {
-    pub fn new(line: &'a [u8]) -> Words<'a> {
-        Words { rest: Some(line) }
-    }
-
-    // The next word.
-    fn peek(&self) -> Option<&'a [u8]> {
-        self.rest?.split(|b| *b == b' ').next()
-    }
-
-    // Goes past the next word.
-    fn next(&mut self) -> Option<&'a [u8]> {
-        let word = self.peek()?;
-        self.rest = self.rest?.get(word.len() + 1..);
-        Some(word)
-    }
-
-    // The first word of the line. A byte that is no text stands in a name that no call has.
-    pub fn name(&mut self) -> &'a str {
-        let name = self.next().unwrap_or(b"");
-        str::from_utf8(name).unwrap_or("")
-    }
-
-    // What is wrong where another word than this one stands: this one is missing, or the other one is unknown there.
-    fn misplaced(&self, word: &str) -> Fault {
-        let rest = self.rest.unwrap_or(b"");
-        if rest
-            .split(|b| *b == b' ')
-            .any(|next| next == word.as_bytes())
-        {
-            Fault::UnknownWord
-        } else {
-            Fault::MissingWord(copy(word))
-        }
-    }
-
-    // Goes past the next word, which must be this one.
-    fn pass(&mut self, word: &str) -> Result<(), Fault> {
-        match self.next() {
-            Some(next) if next == word.as_bytes() => Ok(()),
-            _ => Err(self.misplaced(word)),
-        }
-    }
-
-    // The next word, if it is a number.
-    fn numeral(&mut self) -> Option<&'a str> {
-        let word = str::from_utf8(self.peek()?).ok()?;
-        if !is_number(word) {
-            return None;
-        }
-        self.next();
-        Some(word)
-    }
-
-    // The numbers that follow, at most so many.
-    fn numbers<T: FromStr + Default + Drop>(
-        &mut self,
-        most: usize,
-    ) -> Result<ArrayVec<T, 64>, Fault>
-    where
-        T::Err: Drop,
-        requires { most ≤ 64 }
-        ensures { IfOk result (λ v. array_vec_len v ≤ most) }
+    pub fn new(alloc: Global, line: &'a str) -> Words<'a>
+        ensures { MatchOption result.bare.rest ⊥ (λ rest. rest.now ≡ line.now) }
     {
-        let mut numbers = ArrayVec::new();
-        for _ in 0..most {
-            let Some(numeral) = self.numeral() else {
-                return Ok(numbers);
-            };
-            let number = numeral.parse().or(Err(Fault::LargeNumber))?;
-            numbers.push(number);
+        Words {
+            alloc,
+            bare: BareWords::new(line.as_bytes()),
         }
-        match self.numeral() {
-            None => Ok(numbers),
-            Some(_) => Err(Fault::TooManyNumbers),
-        }
+    }
+
+    // Lends the memory in which the lists of the line lie, and the texts that are made of them.
+    pub fn alloc(&self) -> Global {
+        self.alloc
+    }
+
+    // The first word of the line.
+    pub fn name(&mut self) -> &'a str {
+        self.bare.name()
     }
 
     // The bytes of the record, which has no word of its own.
-    pub fn record(&mut self) -> Result<ArrayVec<u8, 64>, Fault>
-        ensures { IfOk result (λ v. array_vec_len v ≤ 64) }
+    pub fn record(&mut self) -> Result<Vec<u8>, Fault>
+        ensures { IfOk result (λ v. vec_len v ≤ 64) }
     {
-        self.numbers(MOST)
+        match self.bare.record() {
+            Ok(record) => Ok(Vec::from_slice(self.alloc, &record)?),
+            Err(fault) => Err(Fault::of(self.alloc, "", fault)?),
+        }
     }
 
     // A word and bytes.
-    pub fn bytes(&mut self, word: &str) -> Result<ArrayVec<u8, 64>, Fault>
-        ensures { IfOk result (λ v. array_vec_len v ≤ 64) }
+    pub fn bytes(&mut self, word: &str) -> Result<Vec<u8>, Fault>
+        ensures { IfOk result (λ v. vec_len v ≤ 64) }
     {
-        self.pass(word)?;
-        self.numbers(MOST)
+        match self.bare.bytes(word) {
+            Ok(bytes) => Ok(Vec::from_slice(self.alloc, &bytes)?),
+            Err(fault) => Err(Fault::of(self.alloc, word, fault)?),
+        }
     }
 
     // A word and one number.
     pub fn number(&mut self, word: &str) -> Result<u32, Fault> {
-        self.pass(word)?;
-        match self.numbers(1)?.first() {
-            Some(number) => Ok(*number),
-            None => Err(Fault::MissingNumber(copy(word))),
+        match self.bare.number(word) {
+            Ok(number) => Ok(number),
+            Err(fault) => Err(Fault::of(self.alloc, word, fault)?),
         }
     }
 
@@ -139,18 +70,17 @@ impl<'a> Words<'a> {
     pub fn room(&mut self) -> Result<usize, Fault>
         ensures { IfOk result (λ room. room ≤ 64) }
     {
-        let room = self.number("room")? as usize;
-        if MOST < room {
-            return Err(Fault::TooMuchRoom);
+        match self.bare.room() {
+            Ok(room) => Ok(room),
+            Err(fault) => Err(Fault::of(self.alloc, "room", fault)?),
         }
-        Ok(room)
     }
 
     // Every word has been read.
     pub fn end(&mut self) -> Result<(), Fault> {
-        match self.next() {
-            None => Ok(()),
-            Some(_) => Err(Fault::UnknownWord),
+        match self.bare.end() {
+            Ok(()) => Ok(()),
+            Err(fault) => Err(Fault::of(self.alloc, "", fault)?),
         }
     }
 }
