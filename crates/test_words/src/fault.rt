@@ -27,7 +27,7 @@ pub enum Fault {
 }
 
 impl Fault {
-    // A fault of the words, where this word was asked for: it is said whole. Nothing is written, so it is never that.
+    // The fault of bare words, where this word was asked for, which is said whole. Words are read and never written: `Unwritten` is none of theirs.
     pub(crate) fn of(alloc: Global, word: &str, fault: BareFault) -> Result<Fault, AllocError> {
         Ok(match fault {
             BareFault::UnknownCall => Fault::UnknownCall,

@@ -24,15 +24,23 @@ fn words_are_read_into_the_memory_that_they_lend(rt: HostRuntime) -> Result<(), 
     Err(Fault::UnknownWord)
 }
 
-#[test]
-fn a_missing_word_is_said_whole(rt: HostRuntime) -> Result<(), Fault> {
-    let mut words = Words::new(rt.alloc(), "find");
-    let fault = words.number("a_word_of_more_than_sixteen_bytes");
-    let text = match fault {
-        Ok(number) => format!(in rt.alloc(); "{number}")?,
-        Err(fault) => format!(in rt.alloc(); "{fault}")?,
+// What is said where a number is asked for.
+fn said(mut words: Words, word: &str) -> Result<String, Fault> {
+    let text = match words.number(word) {
+        Ok(number) => format!(in words.alloc(); "{number}")?,
+        Err(fault) => format!(in words.alloc(); "{fault}")?,
     };
-    if text.as_str() == "a_word_of_more_than_sixteen_bytes is missing" {
+    Ok(text)
+}
+
+#[test]
+fn a_fault_says_its_word_whole(rt: HostRuntime) -> Result<(), Fault> {
+    let word = "a_word_of_more_than_sixteen_bytes";
+    let missing = said(Words::new(rt.alloc(), "find"), word)?;
+    let alone = said(Words::new(rt.alloc(), word), word)?;
+    if missing.as_str() == "a_word_of_more_than_sixteen_bytes is missing"
+        && alone.as_str() == "a_word_of_more_than_sixteen_bytes has no number"
+    {
         return Ok(());
     }
     Err(Fault::UnknownWord)
